@@ -6,6 +6,7 @@ mod entries;
 mod flow_facts;
 mod flow_system;
 mod graphs;
+mod image_words;
 mod inputs;
 mod instructions;
 mod kinds;

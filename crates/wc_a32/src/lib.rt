@@ -1,0 +1,7 @@
+//! What an A32 word of ARMv7-A does, as far as control flow and cycles depend on it.
+#![tactic(auto)]
+
+mod decode;
+mod fields;
+
+pub use decode::insn;
