@@ -1,5 +1,5 @@
 -- A legal history of a shared workspace, as the replay of a list of entries that knows no values, locks or waiting.
-use Rattle.std.specs.Prelude.{ℕ, zero, suc, ◌+◌, if◌then◌else◌, Bool, true, false, not, ◌&&◌, ◌||◌, ◌==◌, nat_eq, nat_le, List, [], ◌∷◌, ◌++◌, take, drop, map, filter, length, replicate, Option, None, Some, ◌≡◌, IsSome}
+use Rattle.std.specs.Prelude.{ℕ, zero, suc, ◌+◌, if◌then◌else◌, Bool, true, false, not, ◌&&◌, ◌||◌, ◌==◌, nat_eq, nat_le, List, [], ◌∷◌, ◌++◌, take, drop, map, filter, length, replicate, Option, None, Some, ◌≡◌, IsSome, is_none}
 use Rattle.std.specs.Cmp.Lexicographic.{pointwise}
 use Rattle.wc_model.specs.declared.elf_image.Image.{Image}
 use Rattle.wc_model.specs.declared.entries.End.{End}
@@ -110,7 +110,7 @@ with_key name kind stamp (r ∷ rs) =
     if same_name r.name name then record r { keys = r.keys ++ (kind, stamp) ∷ [] } ∷ rs else r ∷ with_key name kind stamp rs
 
 -- The store has rows for at most 32 names: the row made earliest leaves for a new one.
-abbrev pub with_room : List Row → List Row
+abbrev pub with_room : {A : Type 0} → List A → List A
 with_room rows = if nat_le 32 (length rows) then drop 1 rows else rows
 
 abbrev pub stored : List ℕ → ℕ → ℕ → List Row → List Row
@@ -159,10 +159,6 @@ abbrev pub with_ask : ℕ → Option Ask → List (Option Ask) → List (Option 
 with_ask place new [] = []
 with_ask zero new (ask ∷ asks) = new ∷ asks
 with_ask (suc place) new (ask ∷ asks) = ask ∷ with_ask place new asks
-
-abbrev pub is_none : {A : Type 0} → Option A → Bool
-is_none None = true
-is_none (Some _) = false
 
 -- Sessions are numbered from 1.
 abbrev pub is_session : Opening → ℕ → Bool
