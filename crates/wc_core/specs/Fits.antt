@@ -1,0 +1,56 @@
+-- When a ticket, a flight and a landed value fit a core.
+use Rattle.std.specs.Prelude.{ℕ, ◌+◌, ◌≤◌, Bool, true, false, ◌||◌, if◌then◌else◌, List, [], ◌∷◌, Option, None, Some, ◌≡◌, IfSome, map}
+use Rattle.wc_model.specs.declared.entries.Entry.{Entry}
+use Rattle.wc_model.specs.Closures.{has_kind}
+use Rattle.wc_model.specs.Edits.{Setting}
+use Rattle.wc_model.specs.History.{Opening, State, Run, state_after, open_ask, own_run, inputs_at, stamp_at, bound_kind}
+use Rattle.wc_core.specs.Views.{Known, KnownTicket, KnownFlight, KnownLanded, ask_of}
+
+-- Of each kind that an ask has, its ticket holds a feature.
+abbrev pub EachFeature : {V : Type 0} → (ℕ → V → Type 0) → List (ℕ × V) → Type 0
+EachFeature feature [] = Unit {0}
+EachFeature feature (h ∷ hs) = feature h.0 h.1 × EachFeature feature hs
+
+-- The replay has the ticket's ask open, and the ticket holds its inputs and its values.
+pub record IsOpen {V : Type 0} (feature : ℕ → Setting → List ℕ → V → Type 0) (o : Opening) (st : State) (t : KnownTicket V) : Type 0 where
+  pub ask : open_ask o st t.session ≡ Some (ask_of t)
+  pub inputs : t.inputs ≡ inputs_at o st t.at
+  pub features : EachFeature (λ k v. feature k t.inputs t.name v) t.had
+
+-- The names that an ask may still need a copy of: one for a row of the store, and one for each entry to come.
+abbrev pub names_needed : Bool → ℕ
+names_needed true = 1
+names_needed false = 4
+
+abbrev pub is_settled : {V : Type 0} → KnownTicket V → Bool
+is_settled t = t.memory || has_kind bound_kind (map (λ h. h.0) t.had)
+
+pub record FitsTicket {V : Type 0} (feature : ℕ → Setting → List ℕ → V → Type 0) (o : Opening) (history : List Entry) (t : KnownTicket V) : Type 0 where
+  pub st : State
+  pub state : state_after o history ≡ Some st
+  pub is_open : IsOpen feature o st t
+  pub rests : own_run t.session st.out ≡ None
+  pub room : names_needed (is_settled t) ≤ t.spare
+
+-- The run of a flight is the one of its ask that is out.
+abbrev pub run_of : {V : Type 0} → KnownTicket V → ℕ → ℕ → ℕ → Run
+run_of t kind stamp runs = record { session = t.session; kind = kind; name = t.name; stamp = stamp; runs = runs }
+
+pub record FitsFlight {V : Type 0} (feature : ℕ → Setting → List ℕ → V → Type 0) (o : Opening) (history : List Entry) (f : KnownFlight V) : Type 0 where
+  pub st : State
+  pub state : state_after o history ≡ Some st
+  pub is_open : IsOpen feature o st f.ticket
+  pub flies : own_run f.ticket.session st.out ≡ Some (run_of f.ticket f.kind f.stamp f.runs)
+  pub stamp : f.stamp ≡ stamp_at o st f.kind f.ticket.at
+  pub room : 3 ≤ f.ticket.spare
+
+pub record FitsLanded {V : Type 0} (feature : ℕ → Setting → List ℕ → V → Type 0) (o : Opening) (history : List Entry) (l : KnownLanded V) : Type 0 where
+  pub st : State
+  pub state : state_after o history ≡ Some st
+  pub runs : ℕ
+  pub ran : l.runs ≡ runs + 1
+  pub is_open : IsOpen feature o st l.ticket
+  pub flies : own_run l.ticket.session st.out ≡ Some (run_of l.ticket l.kind l.stamp runs)
+  pub stamp : l.stamp ≡ stamp_at o st l.kind l.ticket.at
+  pub gave : IfSome l.gave (λ v. feature l.kind l.ticket.inputs l.ticket.name v)
+  pub room : 3 ≤ l.ticket.spare

@@ -1,0 +1,5 @@
+pub mod Features
+pub mod Fits
+pub mod Holds
+pub mod Turns
+pub mod Views

@@ -1,0 +1,49 @@
+-- What contracts see of a core, a ticket, a flight and a landed value.
+use Rattle.std.specs.Prelude.{ℕ, Bool, List, [], ◌∷◌, map, Option, None, Some}
+use Rattle.std.specs.Global.{Global}
+use Rattle.std.specs.declared.sync.Arc.{Arc}
+use Rattle.wc_model.specs.declared.entries.Entry.{Entry}
+use Rattle.wc_model.specs.Edits.{Setting}
+use Rattle.wc_model.specs.History.{Opening, Ask}
+
+pub record Known : Type 0 where
+  pub opening : Opening
+  pub history : List Entry
+
+-- `had`: the kinds that the ask has, with their values. `memory`: whether a run of the ask found no memory. `spare`:
+-- how many copies of the name are at hand.
+pub record KnownTicket (V : Type 0) : Type 0 where
+  pub session : ℕ
+  pub name : List ℕ
+  pub at : ℕ
+  pub inputs : Setting
+  pub had : List (ℕ × V)
+  pub memory : Bool
+  pub spare : ℕ
+
+-- `runs`: how often its work has run.
+pub record KnownFlight (V : Type 0) : Type 0 where
+  pub ticket : KnownTicket V
+  pub kind : ℕ
+  pub stamp : ℕ
+  pub runs : ℕ
+
+-- `gave`: the value, or none where memory ran out.
+pub record KnownLanded (V : Type 0) : Type 0 where
+  pub ticket : KnownTicket V
+  pub kind : ℕ
+  pub stamp : ℕ
+  pub runs : ℕ
+  pub gave : Option V
+
+abbrev pub ask_of : {V : Type 0} → KnownTicket V → Ask
+ask_of t = record { name = t.name; at = t.at; kinds = map (λ h. h.0) t.had; memory = t.memory }
+
+-- The one value that an ask may have while there is one kind.
+abbrev pub held : {V : Type 0} → Option (Arc V Global) → List (ℕ × V)
+held None = []
+held (Some a) = (11, a.value) ∷ []
+
+abbrev pub value_of : {V : Type 0} → Option (Arc V Global) → Option V
+value_of None = None
+value_of (Some a) = Some a.value

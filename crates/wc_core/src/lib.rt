@@ -1,0 +1,9 @@
+//! The core of a workspace that sessions share: it pins, starts, keeps and answers, and writes the history.
+#![tactic(auto)]
+
+mod store;
+mod tickets;
+mod work;
+
+pub use tickets::Ticket;
+pub use work::{Given, Job, Work};

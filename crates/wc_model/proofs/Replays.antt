@@ -1,0 +1,65 @@
+-- A legal history grows by one entry at a time.
+use Rattle.std.proofs.Common.{◌≡◌, ℕ, ◌+◌, ◌≤◌, Bool, true, List, [], ◌∷◌, ◌++◌, length, take, drop, map, Option, None, Some, refl, sym, ap, ◌∙◌, append_assoc, arith, length-append, IsSome, subst, suc}
+use Rattle.std.proofs.lemmas.List.{drop-append-le, take-append-le, append-nil, length-take}
+use Rattle.wc_model.specs.declared.elf_image.Image.{Image}
+use Rattle.wc_model.specs.declared.entries.Entry.{Entry}
+use Rattle.wc_model.specs.declared.flow_facts.Fact.{Fact}
+use Rattle.wc_model.specs.declared.inputs.Edit.{Edit}
+use Rattle.wc_model.specs.Edits.{edit_of, edits_of}
+use Rattle.wc_model.specs.History.{Opening, State, Chain, IsRight, EachRight, IsLegal, step, stepped, replay, state_after, opened, opening_entries, fact_entries, start}
+
+pub replay-append : (o : Opening) (st : Option State) (es fs : List Entry) → replay o st (es ++ fs) ≡ replay o (replay o st es) fs
+replay-append o st [] fs = refl
+replay-append o st (e ∷ es) fs = replay-append o (stepped o st e) es fs
+
+pub edits_of-append : (es fs : List Entry) → edits_of (es ++ fs) ≡ edits_of es ++ edits_of fs
+edits_of-append [] fs = refl
+edits_of-append (e ∷ es) fs = ap (λ l. edit_of e ++ l) (edits_of-append es fs) ∙ sym (append_assoc (edit_of e) (edits_of es) (edits_of fs))
+
+pub edits_of-snoc : (es : List Entry) (e : Entry) → edits_of (es ++ e ∷ []) ≡ edits_of es ++ edit_of e
+edits_of-snoc es e = edits_of-append es (e ∷ []) ∙ ap (λ l. edits_of es ++ l) (append-nil (edit_of e))
+
+same_right : (chain : Chain) (image : Image) (e : Entry) (a b : List Edit) → a ≡ b → IsRight chain image a e → IsRight chain image b e
+same_right chain image e a b same right = let P : List Edit → Type 0 = λ l. IsRight chain image l e in subst P same right
+
+pub right_snoc : (chain : Chain) (image : Image) (edits : List Edit) (es : List Entry) (e : Entry) → EachRight chain image edits es → IsRight chain image (edits ++ edits_of es) e → EachRight chain image edits (es ++ e ∷ [])
+right_snoc chain image edits [] e each right = (same_right chain image e _ _ (append-nil edits) right, tt)
+right_snoc chain image edits (f ∷ fs) e each right =
+    (each.0, right_snoc chain image (edits ++ edit_of f) fs e each.1 (same_right chain image e _ _ (sym (append_assoc edits (edit_of f) (edits_of fs))) right))
+
+length-fact_entries : (count : ℕ) (facts : List Fact) → length (fact_entries count facts) ≡ length facts
+length-fact_entries count [] = refl
+length-fact_entries count (f ∷ fs) = ap (λ n. suc n) (length-fact_entries (count + 1) fs)
+
+pub length-opening_entries : (o : Opening) → length (opening_entries o) ≡ opened o
+length-opening_entries o = ap (λ n. suc n) (length-fact_entries 2 o.facts) ∙ omega arith
+
+pub opened_within : (o : Opening) (history : List Entry) → take (opened o) history ≡ opening_entries o → opened o ≤ length history
+opened_within o history begins = omega (arith, length-opening_entries o, ap length begins, length-take (opened o) history)
+
+-- What is kept of a history: its replay stands at the state.
+pub record Kept (chain : Chain) (o : Opening) (history : List Entry) (st : State) : Type 0 where
+  pub begins : take (opened o) history ≡ opening_entries o
+  pub state : state_after o history ≡ Some st
+  pub right : EachRight chain o.image [] history
+  pub edits : st.edits ≡ edits_of history
+
+pub kept_is_legal : (chain : Chain) (o : Opening) (history : List Entry) (st : State) → Kept chain o history st → IsLegal chain o history
+kept_is_legal chain o history st kept = record { begins = kept.begins; goes_on = rw kept.state refl; answers = kept.right }
+
+state_snoc : (o : Opening) (history : List Entry) (st new : State) (e : Entry) → opened o ≤ length history → state_after o history ≡ Some st → step o st e ≡ Some new → state_after o (history ++ e ∷ []) ≡ Some new
+state_snoc o history st new e within state next =
+    ap (λ l. replay o (Some (start o)) l) (drop-append-le (opened o) history (e ∷ []) within)
+      ∙ replay-append o (Some (start o)) (drop (opened o) history) (e ∷ [])
+      ∙ ap (λ s. stepped o s e) state
+      ∙ next
+
+pub kept_snoc : (chain : Chain) (o : Opening) (history : List Entry) (st new : State) (e : Entry) → Kept chain o history st → step o st e ≡ Some new → IsRight chain o.image (edits_of history) e → new.edits ≡ st.edits ++ edit_of e → Kept chain o (history ++ e ∷ []) new
+kept_snoc chain o history st new e kept next right edits =
+    let within : opened o ≤ length history = opened_within o history kept.begins in
+    record {
+      begins = take-append-le (opened o) history (e ∷ []) within ∙ kept.begins;
+      state = state_snoc o history st new e within kept.state next;
+      right = right_snoc chain o.image [] history e kept.right right;
+      edits = edits ∙ ap (λ l. l ++ edit_of e) kept.edits ∙ sym (edits_of-snoc history e)
+    }
