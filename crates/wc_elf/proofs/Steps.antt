@@ -1,6 +1,6 @@
 -- The entries of a table that are still to be read, and the first fault of checks one after the other.
-use Rattle.std.proofs.Common.{◌≡◌, ℕ, zero, suc, ◌+◌, ◌*◌, ◌-◌, ◌<◌, ◌≤◌, Bool, true, false, List, [], ◌∷◌, ◌++◌, map, Option, None, Some, refl, sym, ap, ◌∙◌, arith, append_assoc, flat_map}
-use Rattle.std.specs.List.{range_with_len}
+use Rattle.std.proofs.Common.{◌≡◌, ℕ, zero, suc, ◌+◌, ◌*◌, ◌-◌, ◌<◌, ◌≤◌, Bool, true, false, List, [], ◌∷◌, ◌++◌, map, Option, None, Some, refl, sym, ap, ◌∙◌, arith, append_assoc, flat_map, if◌then◌else◌}
+use Rattle.std.specs.List.{range_with_len, find}
 use Rattle.wc_base.specs.declared.faults.Fault.{Fault}
 use Rattle.wc_base.specs.declared.troubles.Trouble.{Trouble}
 use Rattle.wc_base.specs.declared.troubles.Trouble.TheVariants.{Fault as Refused, Memory}
@@ -63,3 +63,8 @@ pub turn_stops : (checks : ℕ → List (Bool × Fault)) (table size count index
 turn_stops checks table size count index whole (Refused fault) more before stops =
   sym (turn_checks checks table size count index (first_fault whole) more before) ∙ stop (checks (table + size * index)) (flat_map checks (rest table size count (index + 1))) fault stops
 turn_stops checks table size count index whole (Memory _) more before stops = tt
+
+pub find_next : (test : ℕ → Bool) (table size count index : ℕ) (all : Option ℕ) → index < count
+  → find test (rest table size count index) ≡ all
+  → (if test (table + size * index) then Some (table + size * index) else find test (rest table size count (index + 1))) ≡ all
+find_next test table size count index all more is = ap (find test) (sym (rest_next table size count index more)) ∙ is

@@ -5,5 +5,8 @@
 mod fields;
 mod headers;
 mod image;
+mod labels;
 mod ranges;
+mod sections;
+mod strings;
 
