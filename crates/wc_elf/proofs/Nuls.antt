@@ -1,5 +1,5 @@
 -- The first NUL of a table, place by place.
-use Rattle.std.proofs.Common.{◌≡◌, ◌≢◌, ℕ, suc, Bool, false, ◌∷◌, ◌+◌, ◌<◌, List, length, drop, get_or, slice_index, refl, sym, ap, ◌∙◌, arith, drop-cons, add-one}
+use Rattle.std.proofs.Common.{◌≡◌, ◌≢◌, ℕ, suc, false, ◌∷◌, ◌+◌, ◌<◌, List, length, drop, get_or, slice_index, refl, arith, drop-cons, add-one}
 use Rattle.std.specs.List.{position_or_len}
 use Rattle.wc_elf.specs.Strings.{is_nul, nul_from}
 

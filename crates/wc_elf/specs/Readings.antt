@@ -1,15 +1,12 @@
 -- What each part of the reading gives: the first fault of its checks, or its value where none fails.
-use Rattle.std.specs.Prelude.{ℕ, ◌≡◌, ◌+◌, ◌*◌, ◌≤◌, ◌^◌, Bool, true, false, All, List, length, map, filter, flat_map, drop, Option, None, Some, is_some, not, ◌==◌}
-use Rattle.std.specs.List.{position_or_len}
+use Rattle.std.specs.Prelude.{ℕ, ◌≡◌, ◌+◌, ◌≤◌, ◌^◌, Bool, List, None, Some}
 use Rattle.std.specs.declared.result.Result.{Result}
 use Rattle.std.specs.declared.result.Result.TheVariants.{Ok, Err}
 use Rattle.wc_base.specs.declared.faults.Fault.{Fault}
 use Rattle.wc_base.specs.declared.troubles.Trouble.{Trouble}
 use Rattle.wc_base.specs.declared.troubles.Trouble.TheVariants.{Fault as Refused, Memory}
-use Rattle.wc_model.specs.Elf.{is_executable}
 use Rattle.wc_model.specs.Image.{first_fault}
 use Rattle.wc_model.specs.declared.elf_image.Range.{Range}
-use Rattle.wc_model.specs.declared.elf_image.Name.{Name}
 
 -- the checks pass, or the first that fails gives the fault
 abbrev pub Checks : {T : Type 0} → List (Bool × Fault) → Result T Fault → Type 0

@@ -1,5 +1,5 @@
 -- Where the texts of a string table end.
-use Rattle.std.specs.Prelude.{ℕ, ◌≡◌, ◌+◌, ◌*◌, ◌/◌, ◌<◌, ◌≤◌, ◌==◌, Bool, List, length, drop, slice_index}
+use Rattle.std.specs.Prelude.{ℕ, ◌≡◌, ◌+◌, ◌*◌, ◌/◌, ◌<◌, ◌==◌, Bool, List, length, drop, slice_index}
 use Rattle.std.specs.List.{position_or_len}
 
 abbrev pub is_nul : ℕ → Bool

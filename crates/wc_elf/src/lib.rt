@@ -6,7 +6,10 @@ mod fields;
 mod headers;
 mod image;
 mod labels;
+mod lookup;
 mod ranges;
 mod sections;
 mod strings;
 
+pub use image::read_image;
+pub use lookup::find;

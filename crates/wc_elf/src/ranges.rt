@@ -29,7 +29,11 @@ fn range_at(file: &[u8], header: usize) -> Result<Option<Range>, Fault>
     if segment.address as u64 + segment.size as u64 > ADDRESSES {
         return Err(Fault::BadTable(header as u64));
     }
-    Ok(Some(Range { start: segment.address, offset, length: segment.size }))
+    Ok(Some(Range {
+        start: segment.address,
+        offset,
+        length: segment.size,
+    }))
 }
 
 /// Adds the range of the program header, where it is an executable one.

@@ -47,7 +47,15 @@ pub fn text_length(strings: &[u8], ends: &[usize], start: usize) -> Option<usize
     }
     let block = start / BLOCK + 1;
     let stop = (BLOCK * block).min(strings.len());
-    let next = if stop < strings.len() { ends[block] } else { strings.len() };
+    let next = if stop < strings.len() {
+        ends[block]
+    } else {
+        strings.len()
+    };
     let end = first_nul(strings, start, stop, next);
-    if end < strings.len() { Some(end - start) } else { None }
+    if end < strings.len() {
+        Some(end - start)
+    } else {
+        None
+    }
 }

@@ -1,6 +1,6 @@
 -- The image of an ELF file: the checks in their order, and what the bytes say where none of them fails.
 -- From the System V gABI, chapter 4, and ELF for the ARM Architecture.
-use Rattle.std.specs.Prelude.{ℕ, ◌≡◌, ◌+◌, ◌*◌, ◌%◌, ◌^◌, Bool, not, ◌&&◌, ◌||◌, ◌==◌, nat_le, nat_lt, if◌then◌else◌, List, [], ◌∷◌, ◌++◌, map, filter, flat_map, drop, Option, None, Some, is_some, position}
+use Rattle.std.specs.Prelude.{ℕ, ◌≡◌, ◌+◌, ◌*◌, ◌%◌, ◌^◌, Bool, not, ◌&&◌, ◌||◌, ◌==◌, nat_le, nat_lt, if◌then◌else◌, List, [], ◌∷◌, ◌++◌, flat_map, drop, Option, None, Some, is_some, position}
 use Rattle.std.specs.Option.{unwrap_or}
 use Rattle.wc_base.specs.declared.faults.Fault.{Fault}
 use Rattle.wc_base.specs.declared.faults.Fault.TheVariants.{Truncated, NotArm, BadTable}
@@ -36,11 +36,11 @@ program_table_checks file =
 -- the segment lies in the file, and ends at 2^32 or before
 abbrev pub segment_checks : List ℕ → ℕ → List (Bool × Fault)
 segment_checks file header =
-  if is_executable file header
-  then (is_inside file (p_offset file header) (p_filesz file header), Truncated (p_offset file header))
-     ∷ (nat_le (p_vaddr file header + p_filesz file header) (2 ^ 32), BadTable header)
-     ∷ []
-  else []
+    if is_executable file header
+    then (is_inside file (p_offset file header) (p_filesz file header), Truncated (p_offset file header))
+    ∷ (nat_le (p_vaddr file header + p_filesz file header) (2 ^ 32), BadTable header)
+    ∷ []
+    else []
 
 abbrev pub section_table_checks : List ℕ → List (Bool × Fault)
 section_table_checks file =
@@ -70,7 +70,7 @@ name_length file section symbol = position (λ byte. byte == 0) (drop (st_name f
 
 abbrev pub label_checks : List ℕ → ℕ → ℕ → List (Bool × Fault)
 label_checks file section symbol =
-  if is_label file symbol then (is_some (name_length file section symbol), BadTable symbol) ∷ [] else []
+    if is_label file symbol then (is_some (name_length file section symbol), BadTable symbol) ∷ [] else []
 
 abbrev pub symbol_checks : List ℕ → Option ℕ → List (Bool × Fault)
 symbol_checks file None = []
@@ -92,9 +92,9 @@ image_fault file = first_fault (checks file)
 -- an executable segment is a range
 abbrev pub segment_range : List ℕ → ℕ → List Range
 segment_range file header =
-  if is_executable file header
-  then record { start = p_vaddr file header; offset = p_offset file header; length = p_filesz file header } ∷ []
-  else []
+    if is_executable file header
+    then record { start = p_vaddr file header; offset = p_offset file header; length = p_filesz file header } ∷ []
+    else []
 
 abbrev pub ranges_of : List ℕ → List Range
 ranges_of file = flat_map (segment_range file) (program_headers file)
@@ -102,17 +102,17 @@ ranges_of file = flat_map (segment_range file) (program_headers file)
 -- a label whose name has so many bytes is a name, unless it has none
 abbrev pub name_in : List ℕ → ℕ → ℕ → ℕ → List Name
 name_in file section symbol length =
-  if length == 0 then []
-  else record {
-         offset = sh_offset file (linked file section) + st_name file symbol;
-         length = length;
-         value = st_value file symbol;
-         function = st_type file symbol == 2;
-       } ∷ []
+    if length == 0 then []
+    else record {
+      offset = sh_offset file (linked file section) + st_name file symbol;
+      length = length;
+      value = st_value file symbol;
+      function = st_type file symbol == 2;
+    } ∷ []
 
 abbrev pub label_name : List ℕ → ℕ → ℕ → List Name
 label_name file section symbol =
-  if is_label file symbol then name_in file section symbol (unwrap_or (name_length file section symbol) 0) else []
+    if is_label file symbol then name_in file section symbol (unwrap_or (name_length file section symbol) 0) else []
 
 abbrev pub section_names : List ℕ → Option ℕ → List Name
 section_names file None = []
