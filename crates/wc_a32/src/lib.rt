@@ -3,5 +3,7 @@
 
 mod decode;
 mod fields;
+#[cfg(test)]
+mod tests;
 
 pub use decode::insn;

@@ -10,6 +10,8 @@ mod lookup;
 mod ranges;
 mod sections;
 mod strings;
+#[cfg(test)]
+mod tests;
 
 pub use image::read_image;
 pub use lookup::find;
