@@ -1,1 +1,4 @@
 pub mod Replays
+pub mod Places
+pub mod Searching
+pub mod Starting

@@ -1,0 +1,9 @@
+//! Walks over numbered nodes: an order in which every step leads back, and the greatest cost of a walk.
+
+mod greatest;
+mod places;
+mod search;
+
+pub use greatest::greatest_costs;
+pub use places::starts;
+pub use search::{order_nodes, Order};
