@@ -144,7 +144,7 @@ module _ (steps : List SystemStep) (start : ℕ) (marks : List Mark) (next path 
           let opened : slice_get marks r ≡ Some Open = search.path_open r (contains_from_get path i r stands) in
           cc
 
-  leaves_with : (rest : List ℕ) → path ≡ rest ++ p ∷ [] → AllPairs (λ s t. s.source ≤ t.source) steps → IsNextStep steps p (slice_index next p) None → IsSearchOf steps start (set marks p Done) next rest (done ++ p ∷ [])
+  pub leaves_with : (rest : List ℕ) → path ≡ rest ++ p ∷ [] → AllPairs (λ s t. s.source ≤ t.source) steps → IsNextStep steps p (slice_index next p) None → IsSearchOf steps start (set marks p Done) next rest (done ++ p ∷ [])
   leaves_with rest split sorted finished =
       record {
         sized = omega (arith, search.sized, length-set marks p Done);
@@ -209,7 +209,7 @@ module _ (steps : List SystemStep) (start : ℕ) (marks : List Mark) (next path 
           let before : placed.0 < slice_index next p = all_followed steps p (slice_index next p) placed.0 s sorted finished (λ i t here later. search.from p i t last_known here later) placed.1 at in
           get_from_contains done q (search.marked_done q (search.passed placed.0 s q placed.1 (subst (λ (x : ℕ). placed.0 < slice_index next x) (sym at) before) to))
 
-  follows_with : (s : SystemStep) → slice_get steps (slice_index next p) ≡ Some s → s.source ≡ p → ((q : ℕ) → s.target ≡ Some q → slice_get marks q ≡ Some Done) → IsSearchOf steps start marks (set next p (slice_index next p + 1)) path done
+  pub follows_with : (s : SystemStep) → slice_get steps (slice_index next p) ≡ Some s → s.source ≡ p → ((q : ℕ) → s.target ≡ Some q → slice_get marks q ≡ Some Done) → IsSearchOf steps start marks (set next p (slice_index next p + 1)) path done
   follows_with s here_s at ahead =
       record {
         sized = omega (arith, search.sized, length-set next p (slice_index next p + 1));
@@ -268,7 +268,7 @@ closed steps order p ordered begun (along s r way among at to) =
     let found = ordered.earlier placed.0 s r placed.1 among to in
     contains_from_get order found.0 r found.2
 
-pub search_ends : (steps : List SystemStep) (start : ℕ) (marks : List Mark) (next path done : List ℕ) → IsSearchOf steps start marks next path done → slice_get path (length path - 1) ≡ None → IsOrder steps start done
+pub search_ends : (steps : List SystemStep) (start : ℕ) (marks : List Mark) (next path done : List ℕ) → IsSearchOf steps start marks next path done → ((p : ℕ) → slice_get path (length path - 1) ≡ Some p → ⊥) → IsOrder steps start done
 search_ends steps start marks next path done search no_last =
     record {
       exactly = λ p. (search.reached_done p, closed steps done start search.ordered started);
@@ -278,6 +278,6 @@ search_ends steps start marks next path done search no_last =
     never : (p : ℕ) → Contains path p → ⊥
     never p within =
         let last : (x : ℕ) × (slice_get path (length path - 1) ≡ Some x) = get_within path (length path - 1) (omega (arith, within.1)) in
-        none-some last.0 (sym no_last ∙ last.1)
+        no_last last.0 last.1
     started : Contains done start
     started = ⊎_elim (λ (within : Contains path start). absurd (never start within)) (λ (within : Contains done start). within) search.begun

@@ -59,3 +59,8 @@ pub record AreStarts (count : ℕ) (steps : List SystemStep) (starts : List ℕ)
   pub inside : (k : ℕ) → k < count → slice_index starts k ≤ length steps
   pub below : (k i : ℕ) (s : SystemStep) → k < count → slice_get steps i ≡ Some s → i < slice_index starts k → s.source < k
   pub from : (k i : ℕ) (s : SystemStep) → k < count → slice_get steps i ≡ Some s → slice_index starts k ≤ i → k ≤ s.source
+
+-- exactly the steps that leave a node
+pub record AreStepsOf (steps : List SystemStep) (p : ℕ) (out : List SystemStep) : Type 0 where
+  pub inside : (s : SystemStep) → Contains out s → Contains steps s × (s.source ≡ p)
+  pub all : (s : SystemStep) → Contains steps s → s.source ≡ p → Contains out s

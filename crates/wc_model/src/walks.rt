@@ -5,5 +5,5 @@ mod places;
 mod search;
 
 pub use greatest::greatest_costs;
-pub use places::starts;
+pub use places::{starts, steps_from};
 pub use search::{order_nodes, Order};

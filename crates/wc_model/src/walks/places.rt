@@ -1,5 +1,5 @@
 ghost use Rattle.std.specs.Prelude.{◌≡◌, ◌+◌, ℕ, ◌<◌, ◌≤◌, length, slice_get, IfOk, Some};
-ghost use Rattle.wc_model.specs.Walks.{AreSteps, AreStarts};
+ghost use Rattle.wc_model.specs.Walks.{AreSteps, AreStarts, AreStepsOf};
 ghost use Rattle.wc_model.specs.declared.flow_system.SystemStep.{SystemStep};
 
 use crate::SystemStep;
@@ -19,6 +19,17 @@ pub fn starts(alloc: Global, nodes: u32, steps: &[SystemStep]) -> Result<Vec<usi
     }
     starts.push(steps.len())?;
     Ok(starts)
+}
+
+/// The steps of a node.
+pub fn steps_from<'a>(steps: &'a [SystemStep], starts: &[usize], node: u32) -> &'a [SystemStep]
+    requires starts { AreStarts (length starts.now) steps.now starts.now }
+    requires known { node + 1 < length starts.now }
+    ensures { AreStepsOf steps.now node result.now }
+{
+    let from = starts[node as usize];
+    let to = starts[node as usize + 1];
+    &steps[from..to]
 }
 
 // The first place at or after `from` whose step leaves `node` or a later one.

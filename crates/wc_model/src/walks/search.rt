@@ -1,4 +1,4 @@
-ghost use Rattle.std.specs.Prelude.{◌≡◌, ◌+◌, ◌-◌, ◌<◌, ◌^◌, ◌++◌, ◌∷◌, [], IfOk, Some, slice_get, slice_index, slice_set, length, replicate, MatchOption};
+ghost use Rattle.std.specs.Prelude.{◌≡◌, ◌+◌, ◌-◌, ◌<◌, ◌^◌, ◌++◌, ◌∷◌, [], IfOk, Some, slice_get, slice_index, slice_set, length, replicate, IsSome, MatchOption};
 ghost use Rattle.wc_model.specs.Searches.{IsSearch, IsNextStep, IsRound};
 ghost use Rattle.wc_model.specs.Walks.{AreSteps, IsCycle, IsSearched};
 
@@ -84,7 +84,7 @@ impl Search {
     // The next step of a node is followed.
     fn follow(&mut self, node: u32)
         requires known { node < length self.old.next.items }
-        requires fits { slice_index self.old.next.items node < 2 ^ 63 }
+        requires fits { slice_index self.old.next.items node + 1 < 2 ^ 64 }
         ensures start { self.new.start ≡ self.old.start }
         ensures marks { self.new.marks.items ≡ self.old.marks.items }
         ensures next { self.new.next.items ≡ slice_set self.old.next.items node (slice_index self.old.next.items node + 1) }
@@ -97,7 +97,8 @@ impl Search {
     // The first step of a node that isn't followed yet.
     fn next_step(&self, steps: &[SystemStep], node: u32) -> Option<SystemStep>
         requires { node < length self.now.next.items }
-        ensures { IsNextStep steps.now node (slice_index self.now.next.items node) result }
+        ensures next { IsNextStep steps.now node (slice_index self.now.next.items node) result }
+        ensures short { IsSome result → slice_index self.now.next.items node + 1 < 2 ^ 64 }
     {
         match steps.get(self.next[node as usize]) {
             Some(step) if step.source == node => Some(*step),

@@ -26,4 +26,9 @@ loop-node-preserved c =
 pub returns : goal.returns
 returns c =
     let steps = c.args.steps.now in
-    rw c.in_ok-push-2.ensures.items (starts_more c.args.nodes steps c.loop-node-test.starts.items (length steps) ? (omega arith) (λ i s at before. All-contains (λ (t : SystemStep). t.source < c.args.nodes) steps s c.requires.sources (contains_from_get steps i s at)) (λ i s at later. let within : i < length steps = slice_get_within steps i s at in absurd (omega arith)))
+    let all : c.loop-node.node ≡ c.args.nodes = omega (arith, c.loop-node.auto.node-end) in
+    rw c.in_ok-push-2.ensures.items (starts_more c.args.nodes steps c.loop-node.starts.items (length steps)
+      (subst (λ (n : ℕ). AreStarts n steps c.loop-node.starts.items) all c.loop-node.invariant.so_far)
+      (omega arith)
+      (λ i s at before. All-contains (λ (t : SystemStep). t.source < c.args.nodes) steps s c.requires.sources (contains_from_get steps i s at))
+      (λ i s at later. let within : i < length steps = slice_get_within steps i s at in absurd (omega arith)))
