@@ -4,3 +4,4 @@ pub mod Searching
 pub mod Starting
 pub mod Greatest
 pub mod Leaving
+pub mod Orders

@@ -1,8 +1,10 @@
 -- Walks over numbered nodes: a list of steps, each from one node to another or to the end, at a cost.
-use Rattle.std.specs.Prelude.{ℕ, ◌≡◌, ◌+◌, ◌<◌, ◌≤◌, ◌↔◌, List, [], ◌∷◌, Option, None, Some, IfSome, All, AllPairs, Contains, slice_get, slice_index, length}
+use Rattle.std.specs.Prelude.{ℕ, ◌≡◌, ◌+◌, ◌<◌, ◌≤◌, ◌↔◌, List, [], ◌∷◌, Option, None, Some, IfSome, IsSome, All, AllPairs, Contains, slice_get, slice_index, length}
 use Rattle.wc_model.specs.declared.flow_system.SystemStep.{SystemStep}
+use Rattle.wc_model.specs.declared.walks.best.Greatest.{Greatest}
+use Rattle.wc_model.specs.declared.walks.best.Greatest.TheVariants.{Cycle, Cost}
 use Rattle.wc_model.specs.declared.walks.search.Order.{Order}
-use Rattle.wc_model.specs.declared.walks.search.Order.TheVariants.{Cycle, Nodes}
+use Rattle.wc_model.specs.declared.walks.search.Order.TheVariants.{Cycle as CycleAt, Nodes}
 
 -- steps between the nodes below `nodes`, in the order of their sources
 pub record AreSteps (nodes : ℕ) (steps : List SystemStep) : Type 0 where
@@ -41,7 +43,7 @@ IsCycle steps start p = Reaches steps start p × Leads steps p p
 
 -- such a node, or the order
 abbrev pub IsSearched : List SystemStep → ℕ → Order → Type 0
-IsSearched steps start (Cycle p) = IsCycle steps start p
+IsSearched steps start (CycleAt p) = IsCycle steps start p
 IsSearched steps start (Nodes order) = IsOrder steps start order.items
 
 abbrev pub walk_cost : List SystemStep → ℕ
@@ -64,3 +66,20 @@ pub record AreStarts (count : ℕ) (steps : List SystemStep) (starts : List ℕ)
 pub record AreStepsOf (steps : List SystemStep) (p : ℕ) (out : List SystemStep) : Type 0 where
   pub inside : (s : SystemStep) → Contains out s → Contains steps s × (s.source ≡ p)
   pub all : (s : SystemStep) → Contains steps s → s.source ≡ p → Contains out s
+
+-- none of the nodes that `start` reaches reaches itself
+abbrev pub IsAcyclicFrom : List SystemStep → ℕ → Type 0
+IsAcyclicFrom steps start = (p : ℕ) → Reaches steps start p → Leads steps p p → ⊥
+
+abbrev pub HasStep : List SystemStep → ℕ → Type 0
+HasStep steps p = (s : SystemStep) × Contains steps s × (s.source ≡ p)
+
+-- the best from `start`; there is one where each reached node has a step
+pub record IsCostFrom (steps : List SystemStep) (start : ℕ) (best : Option ℕ) : Type 0 where
+  pub acyclic : IsAcyclicFrom steps start
+  pub greatest : IsBest steps start best
+  pub ends : ((p : ℕ) → Reaches steps start p → HasStep steps p) → IsSome best
+
+abbrev pub IsGreatestFrom : List SystemStep → ℕ → Greatest → Type 0
+IsGreatestFrom steps start (Cycle p) = IsCycle steps start p
+IsGreatestFrom steps start (Cost best) = IsCostFrom steps start best
