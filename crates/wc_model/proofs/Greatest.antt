@@ -1,14 +1,13 @@
 -- The greatest cost of a walk from a node, from those of the nodes before it in the order.
-use Rattle.std.proofs.Common.{ℕ, zero, suc, ◌≡◌, ◌≢◌, ◌+◌, ◌-◌, ◌*◌, ◌^◌, ◌<◌, ◌≤◌, ◌⊎◌, max, inl, inr, ⊎_elim, List, [], ◌∷◌, ◌++◌, Option, None, Some, IfSome, option_map, length, set, take, drop, get_or, All, refl, sym, ap, subst, ◌∙◌, arith}
-use Rattle.std.specs.List.{Contains, slice_get, slice_index, slice_range}
-use Rattle.std.proofs.lemmas.Bool.{cases_eq, cases_lt}
-use Rattle.std.proofs.lemmas.List.{get_or-take, get_or-drop, length-take, length-drop, get_or-set_same, get_or-set_other}
-use Rattle.std.proofs.lemmas.List.Elements.{Contains-push, Contains-push_cases, Contains-append_left, All-get_or}
-use Rattle.std.proofs.lemmas.Option.{none-some, same_Some, slice_get_within, get_or_from_slice_get, slice_get-get_or}
+use Rattle.std.proofs.Common.{ℕ, ◌≡◌, ◌+◌, ◌<◌, ◌≤◌, max, ⊎_elim, List, [], ◌∷◌, ◌++◌, Option, None, Some, IfSome, option_map, length, set, get_or, refl, sym, ap, subst, ◌∙◌, arith}
+use Rattle.std.specs.List.{Contains, slice_get}
+use Rattle.std.proofs.lemmas.Bool.{cases_lt}
+use Rattle.std.proofs.lemmas.List.{get_or-set_same, get_or-set_other}
+use Rattle.std.proofs.lemmas.List.Elements.{Contains-push, Contains-push_cases, Contains-append_left}
+use Rattle.std.proofs.lemmas.Option.{none-some, same_Some}
 use Rattle.wc_model.specs.declared.flow_system.SystemStep.{SystemStep}
 use Rattle.wc_model.specs.Greatest.{cost_ahead, cost_through, option_max, IsGreatestOf}
 use Rattle.wc_model.specs.Walks.{AreStepsOf, IsWalk, walk_cost, IsOrdered, IsBest}
-use Rattle.wc_model.proofs.Places.{contains_from_get, get_from_contains}
 
 -- one more element
 pub greatest_push : {X : Type 0} (f : X → Option ℕ) (xs : List X) (x : X) (g y : Option ℕ) → f x ≡ y → IsGreatestOf f xs g → IsGreatestOf f (xs ++ x ∷ []) (option_max g y)
@@ -19,6 +18,7 @@ greatest_push {X} f xs x (Some a) (Some b) is old = (⊎_elim (λ (less : a < b)
   where
     found_new : b ≡ max a b → (z : X) × Contains (xs ++ x ∷ []) z × (f z ≡ Some (max a b))
     found_new top = (x, Contains-push xs x, is ∙ ap Some top)
+
     found_old : a ≡ max a b → (z : X) × Contains (xs ++ x ∷ []) z × (f z ≡ Some (max a b))
     found_old top = (old.0.0, Contains-append_left xs (x ∷ []) old.0.0 old.0.1, old.0.2 ∙ ap Some top)
 
@@ -69,17 +69,18 @@ module _ (steps : List SystemStep) (best : List (Option ℕ)) (p : ℕ) (out : L
 pub best_more : (steps : List SystemStep) (order : List ℕ) (best : List (Option ℕ)) (i p : ℕ) (out : List SystemStep) (g : Option ℕ) → IsOrdered steps order → slice_get order i ≡ Some p → p < length best → ((j q : ℕ) → j < i → slice_get order j ≡ Some q → IsBest steps q (get_or best q None)) → AreStepsOf steps p out → IsGreatestOf (cost_through best) out g → (j q : ℕ) → j < i + 1 → slice_get order j ≡ Some q → IsBest steps q (get_or (set best p g) q None)
 best_more steps order best i p out g ordered here_p known old of is j q less at = ⊎_elim
     (λ (before : j < i).
-      let apart : q ≡ p → ⊥ = λ same. let one : j ≡ i = ordered.once j i p (subst (λ (x : ℕ). slice_get order j ≡ Some x) same at) here_p in omega arith in
-      subst (λ (b : Option ℕ). IsBest steps q b) (sym (get_or-set_other best p q g None apart)) (old j q before at))
+    let apart : q ≡ p → ⊥ = λ same. let one : j ≡ i = ordered.once j i p (subst (λ (x : ℕ). slice_get order j ≡ Some x) same at) here_p in omega arith in
+    subst (λ (b : Option ℕ). IsBest steps q b) (sym (get_or-set_other best p q g None apart)) (old j q before at))
     (λ (there : i ≤ j).
-      let one : j ≡ i = omega arith in
-      let same : p ≡ q = same_Some p q (sym here_p ∙ ap (slice_get order) (sym one) ∙ at) in
-      subst (λ (x : ℕ). IsBest steps x (get_or (set best p g) x None)) same (subst (λ (b : Option ℕ). IsBest steps p b) (sym (get_or-set_same best p g None known)) made))
+    let one : j ≡ i = omega arith in
+    let same : p ≡ q = same_Some p q (sym here_p ∙ ap (slice_get order) (sym one) ∙ at) in
+    subst (λ (x : ℕ). IsBest steps x (get_or (set best p g) x None)) same (subst (λ (b : Option ℕ). IsBest steps p b) (sym (get_or-set_same best p g None known)) made))
     (cases_lt j i)
   where
     ahead : (s : SystemStep) (r : ℕ) → Contains steps s → s.source ≡ p → s.target ≡ Some r → IsBest steps r (get_or best r None)
     ahead s r among from to =
         let found = ordered.earlier i s r (here_p ∙ ap Some (sym from)) among to in
         old found.0 r found.1 found.2
+
     made : IsBest steps p g
     made = new_best steps best p out of ahead g is

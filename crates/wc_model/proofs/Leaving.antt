@@ -1,9 +1,9 @@
 -- The steps of a node are those between its start and the next one.
-use Rattle.std.proofs.Common.{ℕ, ◌≡◌, ◌+◌, ◌-◌, ◌<◌, ◌≤◌, ◌⊎◌, ⊎_elim, List, Some, length, take, drop, get_or, sym, ap, ◌∙◌, arith}
+use Rattle.std.proofs.Common.{ℕ, ◌≡◌, ◌+◌, ◌-◌, ◌<◌, ◌≤◌, ⊎_elim, List, Some, length, drop, get_or, sym, ap, ◌∙◌, arith}
 use Rattle.std.specs.List.{Contains, slice_get, slice_index, slice_range}
 use Rattle.std.proofs.lemmas.Bool.{cases_lt}
 use Rattle.std.proofs.lemmas.List.{get_or-take, get_or-drop, length-take, length-drop}
-use Rattle.std.proofs.lemmas.Option.{slice_get_within, get_or_from_slice_get, slice_get-get_or}
+use Rattle.std.proofs.lemmas.Option.{get_or_from_slice_get, slice_get-get_or}
 use Rattle.wc_model.specs.declared.flow_system.SystemStep.{SystemStep}
 use Rattle.wc_model.specs.Walks.{AreStarts, AreStepsOf}
 use Rattle.wc_model.proofs.Places.{contains_from_get, get_from_contains, get_within}
@@ -39,10 +39,11 @@ module _ (steps : List SystemStep) (starts : List ℕ) (p from to : ℕ) (parts 
       let k = placed.0 in
       let low : from ≤ k = ⊎_elim (λ (less : k < from). let bad : s.source < p = parts.below p k s (omega arith) placed.1 (omega arith) in absurd (omega arith)) (λ (fine : from ≤ k). fine) (cases_lt k from) in
       let high : k < to = ⊎_elim (λ (fine : k < to). fine) (λ (more : to ≤ k). let bad : p + 1 ≤ s.source = parts.from (p + 1) k s known placed.1 (omega arith) in absurd (omega arith)) (cases_lt k to) in
-      let there : from + (k - from) ≡ k = omega arith in
-      (k - from,
-       omega (arith, within, length-take (to - from) (drop from steps), length-drop from steps),
-       get_or-take (to - from) (drop from steps) (k - from) s (omega arith) ∙ get_or-drop from steps (k - from) s ∙ ap (λ (n : ℕ). get_or steps n s) there ∙ get_or_from_slice_get steps k s s placed.1)
+      let there : from + (k - from) ≡ k = omega arith in (
+        k - from,
+        omega (arith, within, length-take (to - from) (drop from steps), length-drop from steps),
+        get_or-take (to - from) (drop from steps) (k - from) s (omega arith) ∙ get_or-drop from steps (k - from) s ∙ ap (λ (n : ℕ). get_or steps n s) there ∙ get_or_from_slice_get steps k s s placed.1,
+      )
 
   pub are_steps_of : AreStepsOf steps p (slice_range steps from to)
   are_steps_of = record { inside = inside; all = all }

@@ -1,9 +1,9 @@
 -- What an order of the reached nodes shows.
-use Rattle.std.proofs.Common.{ℕ, zero, suc, ◌≡◌, ◌+◌, ◌<◌, ◌≤◌, List, [], ◌∷◌, Option, None, Some, IfSome, IsSome, All, length, refl, sym, ap, subst, ◌∙◌, arith}
+use Rattle.std.proofs.Common.{ℕ, zero, suc, ◌≡◌, ◌+◌, ◌<◌, ◌≤◌, List, [], ◌∷◌, Option, None, Some, IfSome, IsSome, All, refl, sym, ap, subst, ◌∙◌, arith}
 use Rattle.std.specs.List.{Contains, slice_get}
 use Rattle.std.proofs.lemmas.List.Elements.{All-contains, All-weaker, All-contains_itself}
 use Rattle.wc_model.specs.declared.flow_system.SystemStep.{SystemStep}
-use Rattle.wc_model.specs.Walks.{AreSteps, Reaches, here, along, Leads, IsOrdered, IsOrder, IsWalk, IsBest, IsAcyclicFrom, HasStep, IsCostFrom}
+use Rattle.wc_model.specs.Walks.{AreSteps, Reaches, here, along, Leads, IsOrdered, IsOrder, IsWalk, IsBest, HasStep, IsCostFrom}
 use Rattle.wc_model.proofs.Places.{contains_from_get, get_from_contains}
 
 module _ (steps : List SystemStep) (order : List ℕ) (ordered : IsOrdered steps order) where
@@ -54,8 +54,8 @@ cost_from steps start order best of greatest =
       acyclic = λ p way led. no_cycle steps order of.ordered p ((of.exactly p).1 way) led;
       greatest = greatest;
       ends = λ has.
-        let placed = get_from_contains order start ((of.exactly start).1 here) in
-        let walk = walk_through steps order of.ordered (λ p among. has p ((of.exactly p).0 among)) (placed.0 + 1) placed.0 start (omega arith) placed.1 in
-        let most = greatest.most walk.0 walk.1 in
-        is_some best most.0 most.1;
+          let placed = get_from_contains order start ((of.exactly start).1 here) in
+          let walk = walk_through steps order of.ordered (λ p among. has p ((of.exactly p).0 among)) (placed.0 + 1) placed.0 start (omega arith) placed.1 in
+          let most = greatest.most walk.0 walk.1 in
+          is_some best most.0 most.1;
     }

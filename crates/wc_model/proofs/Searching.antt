@@ -1,8 +1,8 @@
 -- A depth-first search keeps what it knows, and at its end has an order of the reached nodes.
-use Rattle.std.proofs.Common.{ℕ, zero, suc, ◌≡◌, ◌≢◌, ◌+◌, ◌-◌, ◌<◌, ◌≤◌, ◌↔◌, ◌⊎◌, inl, inr, ⊎_elim, List, [], ◌∷◌, ◌++◌, Option, None, Some, length, set, replicate, get_or, sum_by, refl, sym, ap, subst, ◌∙◌, arith}
+use Rattle.std.proofs.Common.{ℕ, zero, suc, ◌≡◌, ◌+◌, ◌-◌, ◌<◌, ◌≤◌, inl, inr, ⊎_elim, List, [], ◌∷◌, ◌++◌, None, Some, length, set, replicate, sum_by, refl, sym, ap, subst, ◌∙◌, arith}
 use Rattle.std.specs.List.{AllPairs, Contains, slice_get, slice_index}
 use Rattle.std.proofs.lemmas.Bool.{cases_eq, cases_lt}
-use Rattle.std.proofs.lemmas.List.{length-set, length-replicate, get_or-replicate, get_or-set_same, get_or-set_other}
+use Rattle.std.proofs.lemmas.List.{length-set, length-replicate, get_or-set_same, get_or-set_other}
 use Rattle.std.proofs.lemmas.List.Elements.{All-contains, Contains-push, Contains-push_cases, Contains-append_left}
 use Rattle.std.proofs.lemmas.List.Sums.{sum_by-set}
 use Rattle.std.proofs.lemmas.Option.{none-some, same_Some, slice_get_within, get_or_from_slice_get}
@@ -49,12 +49,16 @@ search_begin nodes steps starts start fine parts known =
   where
     counted : length (set (replicate nodes New) start Open) ≡ nodes
     counted = length-set (replicate nodes New) start Open ∙ length-replicate nodes New
+
     begins : slice_get (set (replicate nodes New) start Open) start ≡ Some Open
     begins = get_set (replicate nodes New) start Open (omega (arith, length-replicate nodes New))
+
     fresh : (p : ℕ) (m : Mark) → slice_get (replicate nodes New) p ≡ Some m → (m ≡ New → ⊥) → ⊥
     fresh p m at other = other (new_mark nodes p m at)
+
     empty : (q : ℕ) → Contains [] q → ⊥
     empty q none = omega (arith, none.1)
+
     nothing_passed : (i : ℕ) (s : SystemStep) → slice_get steps i ≡ Some s → i < slice_index starts s.source → ⊥
     nothing_passed i s at low =
         let known : s.source < nodes = All-contains (λ (t : SystemStep). t.source < nodes) steps s fine.sources (contains_from_get steps i s at) in
@@ -109,27 +113,27 @@ module _ (steps : List SystemStep) (start : ℕ) (marks : List Mark) (next path 
         from = λ r i t known here later. search.from r i t (omega (arith, length-set marks q Open)) here later;
         passed = λ i t r here before leads. kept Done r (search.passed i t r here before leads) (λ (e : Done ≡ New). cc);
         path_open = λ r within. ⊎_elim
-          (λ (old : Contains path r). kept Open r (search.path_open r old) (λ (e : Open ≡ New). cc))
-          (λ (same : q ≡ r). subst (λ (x : ℕ). slice_get (set marks q Open) x ≡ Some Open) same (get_set marks q Open known))
-          (Contains-push_cases path q r within);
+            (λ (old : Contains path r). kept Open r (search.path_open r old) (λ (e : Open ≡ New). cc))
+            (λ (same : q ≡ r). subst (λ (x : ℕ). slice_get (set marks q Open) x ≡ Some Open) same (get_set marks q Open known))
+            (Contains-push_cases path q r within);
         open_path = λ r marked. ⊎_elim
-          (λ here. subst (λ (x : ℕ). Contains (path ++ q ∷ []) x) (sym here.0) (Contains-push path q))
-          (λ other. Contains-append_left path (q ∷ []) r (search.open_path r other.1))
-          (get_set_cases marks q r Open Open marked);
+            (λ here. subst (λ (x : ℕ). Contains (path ++ q ∷ []) x) (sym here.0) (Contains-push path q))
+            (λ other. Contains-append_left path (q ∷ []) r (search.open_path r other.1))
+            (get_set_cases marks q r Open Open marked);
         done_marked = λ r within. kept Done r (search.done_marked r within) (λ (e : Done ≡ New). cc);
         marked_done = λ r marked. ⊎_elim (λ here. cc) (λ other. search.marked_done r other.1) (get_set_cases marks q r Open Done marked);
         path_once = λ i j r ati atj. ⊎_elim
-          (λ oldi. ⊎_elim (λ oldj. search.path_once i j r oldi oldj) (λ newj. absurd (apart i r oldi newj.1)) (get_push_cases path q j r atj))
-          (λ newi. ⊎_elim (λ oldj. absurd (apart j r oldj newi.1)) (λ newj. newi.0 ∙ sym newj.0) (get_push_cases path q j r atj))
-          (get_push_cases path q i r ati);
+            (λ oldi. ⊎_elim (λ oldj. search.path_once i j r oldi oldj) (λ newj. absurd (apart i r oldi newj.1)) (get_push_cases path q j r atj))
+            (λ newi. ⊎_elim (λ oldj. absurd (apart j r oldj newi.1)) (λ newj. newi.0 ∙ sym newj.0) (get_push_cases path q j r atj))
+            (get_push_cases path q i r ati);
         chain = λ i j r t le ati atj. ⊎_elim
-          (λ oldj. ⊎_elim (λ oldi. search.chain i j r t le oldi oldj) (λ newi. absurd (omega (arith, slice_get_within path j t oldj, newi.0))) (get_push_cases path q i r ati))
-          (λ newj. subst (λ (x : ℕ). Reaches steps r x) newj.1 (⊎_elim (λ oldi. along s q (reaches_last i r oldi) among at to) (λ newi. subst (λ (x : ℕ). Reaches steps x q) newi.1 here) (get_push_cases path q i r ati)))
-          (get_push_cases path q j t atj);
+            (λ oldj. ⊎_elim (λ oldi. search.chain i j r t le oldi oldj) (λ newi. absurd (omega (arith, slice_get_within path j t oldj, newi.0))) (get_push_cases path q i r ati))
+            (λ newj. subst (λ (x : ℕ). Reaches steps r x) newj.1 (⊎_elim (λ oldi. along s q (reaches_last i r oldi) among at to) (λ newi. subst (λ (x : ℕ). Reaches steps x q) newi.1 here) (get_push_cases path q i r ati)))
+            (get_push_cases path q j t atj);
         reached_path = λ r within. ⊎_elim
-          (λ (old : Contains path r). search.reached_path r old)
-          (λ (same : q ≡ r). subst (λ (x : ℕ). Reaches steps start x) same (along s q reached among at to))
-          (Contains-push_cases path q r within);
+            (λ (old : Contains path r). search.reached_path r old)
+            (λ (same : q ≡ r). subst (λ (x : ℕ). Reaches steps start x) same (along s q reached among at to))
+            (Contains-push_cases path q r within);
         reached_done = search.reached_done;
         begun = ⊎_elim (λ (old : Contains path start). inl (Contains-append_left path (q ∷ []) start old)) (λ (old : Contains done start). inr old) search.begun;
         ordered = search.ordered;
@@ -137,8 +141,10 @@ module _ (steps : List SystemStep) (start : ℕ) (marks : List Mark) (next path 
     where
       known : q < length marks
       known = slice_get_within marks q New new
+
       kept : (m : Mark) (r : ℕ) → slice_get marks r ≡ Some m → (m ≡ New → ⊥) → slice_get (set marks q Open) r ≡ Some m
       kept m r marked other = get_set_other marks q r Open m (λ (e : r ≡ q). other (same_Some m New (sym marked ∙ ap (slice_get marks) e ∙ new))) marked
+
       apart : (i r : ℕ) → slice_get path i ≡ Some r → q ≡ r → ⊥
       apart i r stands same =
           let opened : slice_get marks r ≡ Some Open = search.path_open r (contains_from_get path i r stands) in
@@ -152,57 +158,64 @@ module _ (steps : List SystemStep) (start : ℕ) (marks : List Mark) (next path 
         passed = λ i t r here before leads. done_kept r (search.passed i t r here before leads);
         path_open = λ r within. get_set_other marks p r Done Open (λ e. apart r within (sym e)) (search.path_open r (in_path r within));
         open_path = λ r marked. ⊎_elim
-          (λ here. cc)
-          (λ other. ⊎_elim (λ (old : Contains rest r). old) (λ (same : p ≡ r). absurd (other.0 (sym same))) (Contains-push_cases rest p r (subst (λ (xs : List ℕ). Contains xs r) split (search.open_path r other.1))))
-          (get_set_cases marks p r Done Open marked);
+            (λ here. cc)
+            (λ other. ⊎_elim (λ (old : Contains rest r). old) (λ (same : p ≡ r). absurd (other.0 (sym same))) (Contains-push_cases rest p r (subst (λ (xs : List ℕ). Contains xs r) split (search.open_path r other.1))))
+            (get_set_cases marks p r Done Open marked);
         done_marked = λ r within. ⊎_elim
-          (λ (old : Contains done r). done_kept r (search.done_marked r old))
-          (λ (same : p ≡ r). subst (λ (x : ℕ). slice_get (set marks p Done) x ≡ Some Done) same (get_set marks p Done last_known))
-          (Contains-push_cases done p r within);
+            (λ (old : Contains done r). done_kept r (search.done_marked r old))
+            (λ (same : p ≡ r). subst (λ (x : ℕ). slice_get (set marks p Done) x ≡ Some Done) same (get_set marks p Done last_known))
+            (Contains-push_cases done p r within);
         marked_done = λ r marked. ⊎_elim
-          (λ here. subst (λ (x : ℕ). Contains (done ++ p ∷ []) x) (sym here.0) (Contains-push done p))
-          (λ other. Contains-append_left done (p ∷ []) r (search.marked_done r other.1))
-          (get_set_cases marks p r Done Done marked);
+            (λ here. subst (λ (x : ℕ). Contains (done ++ p ∷ []) x) (sym here.0) (Contains-push done p))
+            (λ other. Contains-append_left done (p ∷ []) r (search.marked_done r other.1))
+            (get_set_cases marks p r Done Done marked);
         path_once = λ i j r ati atj. search.path_once i j r (at_path i r ati) (at_path j r atj);
         chain = λ i j r t le ati atj. search.chain i j r t le (at_path i r ati) (at_path j t atj);
         reached_path = λ r within. search.reached_path r (in_path r within);
         reached_done = λ r within. ⊎_elim
-          (λ (old : Contains done r). search.reached_done r old)
-          (λ (same : p ≡ r). subst (λ (x : ℕ). Reaches steps start x) same reached)
-          (Contains-push_cases done p r within);
+            (λ (old : Contains done r). search.reached_done r old)
+            (λ (same : p ≡ r). subst (λ (x : ℕ). Reaches steps start x) same reached)
+            (Contains-push_cases done p r within);
         begun = ⊎_elim
-          (λ (old : Contains path start). ⊎_elim (λ (still : Contains rest start). inl still) (λ (same : p ≡ start). inr (subst (λ (x : ℕ). Contains (done ++ p ∷ []) x) same (Contains-push done p))) (Contains-push_cases rest p start (subst (λ (xs : List ℕ). Contains xs start) split old)))
-          (λ (old : Contains done start). inr (Contains-append_left done (p ∷ []) start old))
-          search.begun;
+            (λ (old : Contains path start). ⊎_elim (λ (still : Contains rest start). inl still) (λ (same : p ≡ start). inr (subst (λ (x : ℕ). Contains (done ++ p ∷ []) x) same (Contains-push done p))) (Contains-push_cases rest p start (subst (λ (xs : List ℕ). Contains xs start) split old)))
+            (λ (old : Contains done start). inr (Contains-append_left done (p ∷ []) start old))
+            search.begun;
         ordered = record {
           once = λ i j r ati atj. ⊎_elim
-            (λ oldi. ⊎_elim (λ oldj. search.ordered.once i j r oldi oldj) (λ newj. absurd (not_done i r oldi newj.1)) (get_push_cases done p j r atj))
-            (λ newi. ⊎_elim (λ oldj. absurd (not_done j r oldj newi.1)) (λ newj. newi.0 ∙ sym newj.0) (get_push_cases done p j r atj))
-            (get_push_cases done p i r ati);
+              (λ oldi. ⊎_elim (λ oldj. search.ordered.once i j r oldi oldj) (λ newj. absurd (not_done i r oldi newj.1)) (get_push_cases done p j r atj))
+              (λ newi. ⊎_elim (λ oldj. absurd (not_done j r oldj newi.1)) (λ newj. newi.0 ∙ sym newj.0) (get_push_cases done p j r atj))
+              (get_push_cases done p i r ati);
           earlier = λ i s q at among to. ⊎_elim
-            (λ old. let found = search.ordered.earlier i s q old among to in (found.0, found.1, get_left done (p ∷ []) found.0 q found.2))
-            (λ new. let found = leads_to_done s q among (sym new.1) to in (found.0, omega (arith, slice_get_within done found.0 q found.1, new.0), get_left done (p ∷ []) found.0 q found.1))
-            (get_push_cases done p i s.source at);
+              (λ old. let found = search.ordered.earlier i s q old among to in (found.0, found.1, get_left done (p ∷ []) found.0 q found.2))
+              (λ new. let found = leads_to_done s q among (sym new.1) to in (found.0, omega (arith, slice_get_within done found.0 q found.1, new.0), get_left done (p ∷ []) found.0 q found.1))
+              (get_push_cases done p i s.source at);
         };
       }
     where
       at_path : (i r : ℕ) → slice_get rest i ≡ Some r → slice_get path i ≡ Some r
       at_path i r at = subst (λ (xs : List ℕ). slice_get xs i ≡ Some r) (sym split) (get_left rest (p ∷ []) i r at)
+
       in_path : (r : ℕ) → Contains rest r → Contains path r
       in_path r within = subst (λ (xs : List ℕ). Contains xs r) (sym split) (Contains-append_left rest (p ∷ []) r within)
+
       last_at : slice_get path (length rest) ≡ Some p
       last_at = subst (λ (xs : List ℕ). slice_get xs (length rest) ≡ Some p) (sym split) (get_push rest p)
+
       apart : (r : ℕ) → Contains rest r → p ≡ r → ⊥
       apart r within same =
           let placed : (i : ℕ) × (slice_get rest i ≡ Some r) = get_from_contains rest r within in
           let one : placed.0 ≡ length rest = search.path_once placed.0 (length rest) r (at_path placed.0 r placed.1) (subst (λ (x : ℕ). slice_get path (length rest) ≡ Some x) same last_at) in
           omega (arith, one, slice_get_within rest placed.0 r placed.1)
+
       differ : (r : ℕ) → slice_get marks r ≡ Some Done → r ≡ p → ⊥
       differ r marked same = let opened : slice_get marks p ≡ Some Open = last_open in cc
+
       done_kept : (r : ℕ) → slice_get marks r ≡ Some Done → slice_get (set marks p Done) r ≡ Some Done
       done_kept r marked = get_set_other marks p r Done Done (λ e. differ r marked e) marked
+
       not_done : (i r : ℕ) → slice_get done i ≡ Some r → p ≡ r → ⊥
       not_done i r at same = differ r (search.done_marked r (contains_from_get done i r at)) (sym same)
+
       leads_to_done : (s : SystemStep) (q : ℕ) → Contains steps s → s.source ≡ p → s.target ≡ Some q → (j : ℕ) × (slice_get done j ≡ Some q)
       leads_to_done s q among at to =
           let placed : (k : ℕ) × (slice_get steps k ≡ Some s) = get_from_contains steps s among in
@@ -214,19 +227,19 @@ module _ (steps : List SystemStep) (start : ℕ) (marks : List Mark) (next path 
       record {
         sized = omega (arith, search.sized, length-set next p (slice_index next p + 1));
         from = λ r i t known here later. ⊎_elim
-          (λ (same : r ≡ p). search.from r i t known here (omega (arith, now_same r same, ap (slice_index next) same)))
-          (λ (other : r ≡ p → ⊥). search.from r i t known here (omega (arith, now_other r other)))
-          (cases_eq r p);
+            (λ (same : r ≡ p). search.from r i t known here (omega (arith, now_same r same, ap (slice_index next) same)))
+            (λ (other : r ≡ p → ⊥). search.from r i t known here (omega (arith, now_other r other)))
+            (cases_eq r p);
         passed = λ i t r here before leads. ⊎_elim
-          (λ (same : t.source ≡ p). ⊎_elim
+            (λ (same : t.source ≡ p). ⊎_elim
             (λ (old : i < slice_index next p). search.passed i t r here (omega (arith, ap (slice_index next) same)) leads)
             (λ (new : slice_index next p ≤ i).
-              let there : i ≡ slice_index next p = omega (arith, now_same t.source same) in
-              let is : t ≡ s = same_Some t s (sym here ∙ ap (slice_get steps) there ∙ here_s) in
-              ahead r (ap (λ (x : SystemStep). x.target) (sym is) ∙ leads))
+            let there : i ≡ slice_index next p = omega (arith, now_same t.source same) in
+            let is : t ≡ s = same_Some t s (sym here ∙ ap (slice_get steps) there ∙ here_s) in
+            ahead r (ap (λ (x : SystemStep). x.target) (sym is) ∙ leads))
             (cases_lt i (slice_index next p)))
-          (λ (other : t.source ≡ p → ⊥). search.passed i t r here (omega (arith, now_other t.source other)) leads)
-          (cases_eq t.source p);
+            (λ (other : t.source ≡ p → ⊥). search.passed i t r here (omega (arith, now_other t.source other)) leads)
+            (cases_eq t.source p);
         path_open = search.path_open;
         open_path = search.open_path;
         done_marked = search.done_marked;
@@ -241,6 +254,7 @@ module _ (steps : List SystemStep) (start : ℕ) (marks : List Mark) (next path 
     where
       now_same : (r : ℕ) → r ≡ p → slice_index (set next p (slice_index next p + 1)) r ≡ slice_index next p + 1
       now_same r same = ap (slice_index (set next p (slice_index next p + 1))) same ∙ get_or-set_same next p (slice_index next p + 1) 0 (omega (arith, search.sized, last_known))
+
       now_other : (r : ℕ) → (r ≡ p → ⊥) → slice_index (set next p (slice_index next p + 1)) r ≡ slice_index next r
       now_other r other = get_or-set_other next p r (slice_index next p + 1) 0 other
 
@@ -279,5 +293,6 @@ search_ends steps start marks next path done search no_last =
     never p within =
         let last : (x : ℕ) × (slice_get path (length path - 1) ≡ Some x) = get_within path (length path - 1) (omega (arith, within.1)) in
         no_last last.0 last.1
+
     started : Contains done start
     started = ⊎_elim (λ (within : Contains path start). absurd (never start within)) (λ (within : Contains done start). within) search.begun

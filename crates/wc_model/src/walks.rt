@@ -5,7 +5,7 @@ mod greatest;
 mod places;
 mod search;
 
-pub use best::{greatest_from, Greatest};
+pub use best::{Greatest, greatest_from};
 pub use greatest::greatest_costs;
 pub use places::{starts, steps_from};
-pub use search::{order_nodes, Order};
+pub use search::{Order, order_nodes};

@@ -1,8 +1,8 @@
 ghost use Rattle.std.specs.Prelude.{◌<◌, IfOk};
 ghost use Rattle.wc_model.specs.Walks.{AreSteps, IsGreatestFrom};
 
-use crate::walks::{greatest_costs, order_nodes, Order};
 use crate::SystemStep;
+use crate::walks::{Order, greatest_costs, order_nodes};
 use std::alloc::{AllocError, Global};
 
 /// The greatest cost of a walk from a node to the end, or `None` where no walk leads there; or a node that
@@ -14,7 +14,12 @@ pub enum Greatest {
 }
 
 /// The greatest cost of a walk from `start` to the end, in time `n log n`.
-pub fn greatest_from(alloc: Global, nodes: u32, steps: &[SystemStep], start: u32) -> Result<Greatest, AllocError>
+pub fn greatest_from(
+    alloc: Global,
+    nodes: u32,
+    steps: &[SystemStep],
+    start: u32,
+) -> Result<Greatest, AllocError>
     requires steps { AreSteps nodes steps.now }
     requires start { start < nodes }
     ensures { IfOk result (IsGreatestFrom steps.now start) }

@@ -2,12 +2,17 @@ ghost use Rattle.std.specs.Prelude.{◌≡◌, ℕ, ◌+◌, ◌<◌, ◌≤◌,
 ghost use Rattle.wc_model.specs.Greatest.{IsGreatestOf, cost_through, option_max};
 ghost use Rattle.wc_model.specs.Walks.{AreSteps, IsOrdered, IsBest};
 
-use crate::walks::{starts, steps_from};
 use crate::SystemStep;
+use crate::walks::{starts, steps_from};
 use std::alloc::{AllocError, Global};
 
 /// Per node of `order` the greatest cost of a walk to the end, or `None` where no walk leads there.
-pub fn greatest_costs(alloc: Global, nodes: u32, steps: &[SystemStep], order: &[u32]) -> Result<Vec<Option<u128>>, AllocError>
+pub fn greatest_costs(
+    alloc: Global,
+    nodes: u32,
+    steps: &[SystemStep],
+    order: &[u32],
+) -> Result<Vec<Option<u128>>, AllocError>
     requires steps { AreSteps nodes steps.now }
     requires inside { All (λ p. p < nodes) order.now }
     requires ordered { IsOrdered steps.now order.now }

@@ -2,8 +2,8 @@ ghost use Rattle.std.specs.Prelude.{◌≡◌, ◌+◌, ◌-◌, ◌<◌, ◌^�
 ghost use Rattle.wc_model.specs.Searches.{IsSearch, IsNextStep, IsRound};
 ghost use Rattle.wc_model.specs.Walks.{AreSteps, IsCycle, IsSearched};
 
-use crate::walks::starts;
 use crate::SystemStep;
+use crate::walks::starts;
 use std::alloc::{AllocError, Global};
 
 /// The nodes that the start reaches: one of them reaches itself, or they have an order in which every step
@@ -141,7 +141,12 @@ fn new_marks(alloc: Global, nodes: u32) -> Result<Vec<Mark>, AllocError>
 }
 
 /// Searches the nodes from `start` on, depth first.
-pub fn order_nodes(alloc: Global, nodes: u32, steps: &[SystemStep], start: u32) -> Result<Order, AllocError>
+pub fn order_nodes(
+    alloc: Global,
+    nodes: u32,
+    steps: &[SystemStep],
+    start: u32,
+) -> Result<Order, AllocError>
     requires steps { AreSteps nodes steps.now }
     requires start { start < nodes }
     ensures { IfOk result (IsSearched steps.now start) }

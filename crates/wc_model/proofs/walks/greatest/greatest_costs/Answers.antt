@@ -1,11 +1,10 @@
-use Rattle.std.proofs.Common.{ℕ, ◌≡◌, ◌+◌, ◌*◌, ◌^◌, ◌<◌, ◌≤◌, List, Option, None, Some, IfSome, All, length, set, get_or, sym, ap, subst, ◌∙◌, arith}
+use Rattle.std.proofs.Common.{ℕ, ◌≡◌, ◌+◌, ◌*◌, ◌^◌, ◌<◌, ◌≤◌, List, Option, None, Some, IfSome, All, length, get_or, sym, subst, ◌∙◌, arith}
 use Rattle.std.specs.List.{Contains, slice_get}
-use Rattle.std.proofs.lemmas.List.{length-set, get_or_default}
+use Rattle.std.proofs.lemmas.List.{length-set}
 use Rattle.std.proofs.lemmas.List.Elements.{All-contains, All-set, All-weaker, All-contains_itself}
 use Rattle.std.proofs.lemmas.Option.{slice_get-get_or, slice_get_within, IfSome_then}
 use Rattle.wc_model.specs.declared.flow_system.SystemStep.{SystemStep}
 use Rattle.wc_model.specs.Greatest.{cost_through, IsGreatestOf}
-use Rattle.wc_model.specs.Walks.{IsBest}
 use Rattle.wc_model.proofs.Places.{get_from_contains}
 use Rattle.wc_model.proofs.Greatest.{best_more}
 use Rattle.wc_model.proofs.walks.greatest.greatest_costs.Goals as goal
@@ -14,7 +13,7 @@ pub greatest_through-greatest-requires-clause-targets : goal.greatest_through-gr
 greatest_through-greatest-requires-clause-targets c =
     let out = c.steps_from.result.now in
     let inside : (s : SystemStep) → Contains out s → IfSome s.target (λ q. q < length c.deref-in-loop-node.result.now) = λ s among.
-        rw (c.deref-in-loop-node.ensures.value, c.loop-node.invariant.count) (All-contains (λ (t : SystemStep). IfSome t.target (λ q. q < c.args.nodes)) c.args.steps.now s c.requires.steps.targets (c.steps_from.ensures.inside s among).0) in
+    rw (c.deref-in-loop-node.ensures.value, c.loop-node.invariant.count) (All-contains (λ (t : SystemStep). IfSome t.target (λ q. q < c.args.nodes)) c.args.steps.now s c.requires.steps.targets (c.steps_from.ensures.inside s among).0) in
     All-weaker (Contains out) (λ (s : SystemStep). IfSome s.target (λ q. q < length c.deref-in-loop-node.result.now)) inside out (All-contains_itself out)
 
 pub loop-node-preserved : goal.loop-node-preserved
@@ -34,8 +33,8 @@ loop-node-preserved c =
       count = length-set best p g ∙ old.count;
       so_far = best_more c.args.steps.now c.args.order.now best i p c.steps_from.result.now g c.requires.ordered here_p (omega (arith, old.count, known)) old.so_far c.steps_from.ensures greatest;
       small = All-set (λ (b : Option ℕ). IfSome b (λ n. n ≤ (i + 1) * 2 ^ 64)) best p g
-        (IfSome_then g fits (λ n less. omega arith))
-        (All-weaker (λ (b : Option ℕ). IfSome b (λ n. n ≤ i * 2 ^ 64)) (λ (b : Option ℕ). IfSome b (λ n. n ≤ (i + 1) * 2 ^ 64)) (λ b fine. IfSome_then b fine (λ n less. omega arith)) best old.small);
+          (IfSome_then g fits (λ n less. omega arith))
+          (All-weaker (λ (b : Option ℕ). IfSome b (λ n. n ≤ i * 2 ^ 64)) (λ (b : Option ℕ). IfSome b (λ n. n ≤ (i + 1) * 2 ^ 64)) (λ b fine. IfSome_then b fine (λ n less. omega arith)) best old.small);
     }
 
 pub returns-clause-best : goal.returns-clause-best

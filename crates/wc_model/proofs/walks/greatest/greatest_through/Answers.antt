@@ -1,4 +1,4 @@
-use Rattle.std.proofs.Common.{ℕ, ◌≡◌, ◌+◌, ◌^◌, None, take, get_or, sym}
+use Rattle.std.proofs.Common.{◌+◌, ◌^◌, None, take, get_or, sym}
 use Rattle.std.proofs.lemmas.List.{take_more}
 use Rattle.wc_model.specs.declared.flow_system.SystemStep.{SystemStep}
 use Rattle.wc_model.specs.Greatest.{cost_through}

@@ -1,4 +1,4 @@
-use Rattle.std.proofs.Common.{ℕ, ◌≡◌, ◌+◌, ◌<◌, ◌≤◌, ◌⊎◌, ⊎_elim, Some, length, subst, sym, arith}
+use Rattle.std.proofs.Common.{ℕ, ◌≡◌, ◌<◌, ◌≤◌, ⊎_elim, Some, length, subst, arith}
 use Rattle.std.specs.List.{slice_get}
 use Rattle.std.proofs.lemmas.Bool.{cases_lt}
 use Rattle.std.proofs.lemmas.List.Elements.{All-contains}
@@ -14,9 +14,9 @@ loop-node-preserved c =
     let steps = c.args.steps.now in
     let place = c.first_from-place.result in
     let low : (i : ℕ) (s : SystemStep) → slice_get steps i ≡ Some s → i < place → s.source < c.loop-node.node = λ i s at before. ⊎_elim
-        (λ (old : i < c.loop-node.place). c.loop-node.invariant.below i s at old)
-        (λ (new : c.loop-node.place ≤ i). c.first_from-place.ensures.below i s new before at)
-        (cases_lt i c.loop-node.place) in
+    (λ (old : i < c.loop-node.place). c.loop-node.invariant.below i s at old)
+    (λ (new : c.loop-node.place ≤ i). c.first_from-place.ensures.below i s new before at)
+    (cases_lt i c.loop-node.place) in
     record {
       inside = c.first_from-place.ensures.inside;
       below = λ i s at before. let less : s.source < c.loop-node.node = low i s at before in omega arith;
@@ -28,7 +28,7 @@ returns c =
     let steps = c.args.steps.now in
     let all : c.loop-node.node ≡ c.args.nodes = omega (arith, c.loop-node.auto.node-end) in
     rw c.in_ok-push-2.ensures.items (starts_more c.args.nodes steps c.loop-node.starts.items (length steps)
-      (subst (λ (n : ℕ). AreStarts n steps c.loop-node.starts.items) all c.loop-node.invariant.so_far)
-      (omega arith)
-      (λ i s at before. All-contains (λ (t : SystemStep). t.source < c.args.nodes) steps s c.requires.sources (contains_from_get steps i s at))
-      (λ i s at later. let within : i < length steps = slice_get_within steps i s at in absurd (omega arith)))
+    (subst (λ (n : ℕ). AreStarts n steps c.loop-node.starts.items) all c.loop-node.invariant.so_far)
+    (omega arith)
+    (λ i s at before. All-contains (λ (t : SystemStep). t.source < c.args.nodes) steps s c.requires.sources (contains_from_get steps i s at))
+    (λ i s at later. let within : i < length steps = slice_get_within steps i s at in absurd (omega arith)))

@@ -1,7 +1,6 @@
 use Rattle.std.proofs.Common.{◌≡◌, ℕ, ◌<◌, ◌≤◌, length, slice_get, Some}
 use Rattle.wc_model.specs.Walks.{AreStarts}
 use Rattle.wc_model.specs.declared.flow_system.SystemStep.{SystemStep}
-use Rattle.wc_model.proofs.Starting.{starts_more}
 use Rattle.wc_model.proofs.walks.places.starts.Given as goal
 
 abbrev pub invariant-loop-node : goal.invariant-loop-node

@@ -1,4 +1,4 @@
-use Rattle.std.proofs.Common.{◌≡◌, ◌+◌, ◌-◌, length}
+use Rattle.std.proofs.Common.{◌≡◌, length}
 use Rattle.wc_model.specs.Searches.{IsSearch, rounds_left}
 use Rattle.wc_model.proofs.walks.search.order_nodes.Given as goal
 

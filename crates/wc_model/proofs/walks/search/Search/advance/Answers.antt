@@ -1,9 +1,8 @@
-use Rattle.std.proofs.Common.{ℕ, ◌≡◌, ◌+◌, ◌-◌, ◌<◌, ◌≤◌, List, Option, None, Some, IfSome, length, get_or, sum_by, refl, sym, ap, subst, ◌∙◌, arith}
+use Rattle.std.proofs.Common.{ℕ, ◌≡◌, ◌-◌, ◌<◌, Some, IfSome, length, sum_by, refl, sym, ap, subst, ◌∙◌, arith}
 use Rattle.std.specs.List.{Contains, slice_get, slice_index}
 use Rattle.std.proofs.lemmas.Option.{none-some, same_Some, slice_get_within, slice_get_read}
 use Rattle.std.proofs.lemmas.List.Elements.{All-contains}
 use Rattle.wc_model.specs.declared.flow_system.SystemStep.{SystemStep}
-use Rattle.wc_model.specs.declared.walks.search.Mark.{Mark}
 use Rattle.wc_model.specs.declared.walks.search.Mark.TheVariants.{New, Open, Done}
 use Rattle.wc_model.specs.Searches.{weight}
 use Rattle.wc_model.proofs.Places.{contains_from_get}
@@ -35,7 +34,8 @@ returns-in_ok-leave-in-None-clause-round c =
     let e = c.in_ok-leave-in-None.ensures in
     rw (e.start, e.marks, e.next, e.done) (
       leaves_with c.args.steps.now s.start s.marks.items s.next.items s.path.items s.done.items c.args.node c.requires.search c.requires.last c.leave.new.self.path.items e.path c.requires.steps.sorted c.in-None.ensures.next,
-      leave_falls s.marks.items c.args.node (sum_by (λ (place : ℕ). length c.args.steps.now - place) s.next.items) (last_open c.args.steps.now s.start s.marks.items s.next.items s.path.items s.done.items c.args.node c.requires.search c.requires.last))
+      leave_falls s.marks.items c.args.node (sum_by (λ (place : ℕ). length c.args.steps.now - place) s.next.items) (last_open c.args.steps.now s.start s.marks.items s.next.items s.path.items s.done.items c.args.node c.requires.search c.requires.last),
+    )
 
 pub index-requires : goal.index-requires
 index-requires c = omega (arith, target_known (goal.at.index-requires c).In-Some-target, c.args.self.now.marks.ok.0)
@@ -57,7 +57,8 @@ returns-in-None-target-clause-round c =
     let within : slice_index s.next.items c.args.node < length c.args.steps.now = slice_get_within c.args.steps.now (slice_index s.next.items c.args.node) c.in-Some.step c.in-Some.ensures.next.0 in
     rw (e.start, e.marks, e.next, e.path, e.done) (
       follows_with c.args.steps.now s.start s.marks.items s.next.items s.path.items s.done.items c.args.node c.requires.search c.requires.last c.in-Some.step c.in-Some.ensures.next.0 c.in-Some.ensures.next.1 (λ q to. absurd (none-some q (sym c.in-None-target.is ∙ to))),
-      follow_falls s.next.items c.args.node (length c.args.steps.now) (sum_by weight s.marks.items) (node_known (goal.at.returns-in-None-target-clause-round c).In-Some) within)
+      follow_falls s.next.items c.args.node (length c.args.steps.now) (sum_by weight s.marks.items) (node_known (goal.at.returns-in-None-target-clause-round c).In-Some) within,
+    )
 
 pub returns-in_ok-enter-in-New-clause-round : goal.returns-in_ok-enter-in-New-clause-round
 returns-in_ok-enter-in-New-clause-round c =
@@ -67,7 +68,8 @@ returns-in_ok-enter-in-New-clause-round c =
     let marked : slice_get s.marks.items q ≡ Some New = slice_get_read s.marks.items (length s.marks.items) q c.index.result.now refl (target_known (goal.at.returns-in_ok-enter-in-New-clause-round c).In-Some-target) c.index.ensures ∙ ap Some c.in-New.is in
     rw (e.start, e.marks, e.next, e.path, e.done) (
       enters c.args.steps.now s.start s.marks.items s.next.items s.path.items s.done.items c.args.node c.requires.search c.requires.last c.in-Some.step q (among (goal.at.returns-in_ok-enter-in-New-clause-round c).In-Some) c.in-Some.ensures.next.1 c.in-Some-target.is marked,
-      enter_falls s.marks.items q (sum_by (λ (place : ℕ). length c.args.steps.now - place) s.next.items) marked)
+      enter_falls s.marks.items q (sum_by (λ (place : ℕ). length c.args.steps.now - place) s.next.items) marked,
+    )
 
 pub returns-in-Done-clause-round : goal.returns-in-Done-clause-round
 returns-in-Done-clause-round c =
@@ -78,4 +80,5 @@ returns-in-Done-clause-round c =
     let within : slice_index s.next.items c.args.node < length c.args.steps.now = slice_get_within c.args.steps.now (slice_index s.next.items c.args.node) c.in-Some.step c.in-Some.ensures.next.0 in
     rw (e.start, e.marks, e.next, e.path, e.done) (
       follows_with c.args.steps.now s.start s.marks.items s.next.items s.path.items s.done.items c.args.node c.requires.search c.requires.last c.in-Some.step c.in-Some.ensures.next.0 c.in-Some.ensures.next.1 (λ r to. subst (λ (x : ℕ). slice_get s.marks.items x ≡ Some Done) (same_Some q r (sym c.in-Some-target.is ∙ to)) marked),
-      follow_falls s.next.items c.args.node (length c.args.steps.now) (sum_by weight s.marks.items) (node_known (goal.at.returns-in-Done-clause-round c).In-Some) within)
+      follow_falls s.next.items c.args.node (length c.args.steps.now) (sum_by weight s.marks.items) (node_known (goal.at.returns-in-Done-clause-round c).In-Some) within,
+    )

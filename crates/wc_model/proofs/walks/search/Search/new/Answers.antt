@@ -1,4 +1,3 @@
-use Rattle.std.proofs.Common.{◌≡◌}
 use Rattle.wc_model.proofs.Searching.{search_begin}
 use Rattle.wc_model.proofs.walks.search.Search.new.Goals as goal
 

@@ -1,0 +1,5 @@
+//! The analysis of one function, from its inputs alone, one step after the other.
+
+mod code;
+mod costs;
+mod ways;
