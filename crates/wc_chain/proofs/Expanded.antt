@@ -63,7 +63,7 @@ module _ (image : Image) (facts : List Fact) (entry : ℕ) (cycles : Cycles) (co
         done new more costs_next has_next =
             middle_ends image facts entry cycles count at new.addresses.items new.steps.items
               (way_added image facts entry cycles count at insn known mid new false ways.next more [] costs_next half has_next)
-              (record { faultless = fault_is image facts entry at insn known ∙ are.faultless entry facts; built = λ is. are.built (subst IsUnbuiltInsn known is) })
+              (record { faultless = fault_is image facts entry at insn known ∙ are.faultless entry facts; insn = insn; known = known; built = are.built })
 
 -- the second way
 pub expanded : (image : Image) (cycles : Cycles) (count at : ℕ) (old mid new : Code) (insn : Insn) (ways : Ways) (taken_cost next_cost : ℕ) (more : Bool) → slice_get old.addresses.items count ≡ Some at → IsNumbered old → insn_at image at ≡ Some insn → AreWays at insn ways → taken_cost ≡ insn_cycles cycles true insn → next_cost ≡ insn_cycles cycles false insn → HasWay old mid count ways.taken taken_cost true → HasWay mid new count ways.next next_cost more → IsExpanded image cycles count old new more

@@ -3,6 +3,7 @@ use Rattle.std.specs.Prelude.{ℕ, ◌≡◌, ◌+◌, ◌<◌, ◌≤◌, ◌�
 use Rattle.wc_model.specs.declared.elf_image.Image.{Image}
 use Rattle.wc_model.specs.declared.flow_facts.Fact.{Fact}
 use Rattle.wc_model.specs.declared.flow_system.SystemStep.{SystemStep}
+use Rattle.wc_model.specs.declared.instructions.Insn.{Insn}
 use Rattle.wc_model.specs.declared.machine.Cycles.{Cycles}
 use Rattle.wc_model.specs.Chain.{IsUnbuiltInsn, IsUnbuiltCode}
 use Rattle.wc_model.specs.Paths.{Reaches, step_cycles}
@@ -39,7 +40,9 @@ pub record IsStepOf (image : Image) (facts : List Fact) (entry : ℕ) (cycles : 
 -- a position that is analysed
 pub record IsBuilt (image : Image) (facts : List Fact) (entry at : ℕ) : Type 0 where
   pub faultless : fault_at image facts entry (start_of at) ≡ None
-  pub built : IsUnbuiltInsn (insn_at image at) → ⊥
+  pub insn : Insn
+  pub known : insn_at image at ≡ Some insn
+  pub built : IsUnbuiltInsn (Some insn) → ⊥
 
 -- the first `count` addresses are expanded
 pub record IsExplored (image : Image) (facts : List Fact) (entry : ℕ) (cycles : Cycles) (count : ℕ) (ads : List ℕ) (steps : List SystemStep) : Type 0 where

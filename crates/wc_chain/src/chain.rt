@@ -2,4 +2,8 @@
 
 mod code;
 mod costs;
+mod outcome;
+mod symbols;
 mod ways;
+
+pub use outcome::chain;
