@@ -23,7 +23,7 @@ use Rattle.wc_chain.specs.Numbers.{IsNumbered, IsFull, HasNumber, HasWay}
 use Rattle.wc_chain.specs.Ways.{way_steps}
 use Rattle.wc_chain.proofs.Many.{too_many}
 
-contains_head : {X : Type 0} (x : X) (xs : List X) → Contains (x ∷ xs) x
+pub contains_head : {X : Type 0} (x : X) (xs : List X) → Contains (x ∷ xs) x
 contains_head x xs = (0, omega arith, refl)
 
 contains_tail : {X : Type 0} (x : X) (xs : List X) (y : X) → Contains xs y → Contains (x ∷ xs) y

@@ -3,7 +3,6 @@
 mod code;
 mod costs;
 mod outcome;
-mod symbols;
 mod ways;
 
 pub use outcome::chain;

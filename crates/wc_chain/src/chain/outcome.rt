@@ -3,9 +3,9 @@ ghost use Rattle.wc_model.specs.Chain.{IsChain};
 ghost use Rattle.wc_model.specs.Words.{find_of};
 
 use crate::chain::code::explore;
-use crate::chain::symbols::find;
 use std::alloc::{AllocError, Global};
 use wc_base::{Addr, Fault, UnbuiltWord};
+use wc_elf::find;
 use wc_model::walks::{greatest_from, Greatest};
 use wc_model::{Facts, Hardware, Image, Outcome};
 
@@ -32,7 +32,6 @@ fn chain_at(alloc: Global, image: &Image, _facts: &Facts, hardware: &Hardware, e
     let nodes = code.addresses.len() as u32;
     match greatest_from(alloc, nodes, code.steps.as_slice(), 0)? {
         Greatest::Cycle(_) => Ok(unbuilt),
-        Greatest::Cost(Some(bound)) => Ok(Outcome::Bound(bound)),
-        Greatest::Cost(None) => unreachable!(),
+        Greatest::Cost(best) => Ok(Outcome::Bound(best.unwrap())),
     }
 }
