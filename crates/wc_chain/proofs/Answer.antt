@@ -44,6 +44,9 @@ module _ (image : Image) (facts : List Fact) (entry : ℕ) (hardware : Hardware)
   placed : (p : Position) → Reaches image facts entry (start_of entry) p → (k : ℕ) × (a : ℕ) × (p ≡ start_of a) × (slice_get code.addresses.items k ≡ Some a)
   placed p way = let at = reaches_to_joins image facts entry hardware.cycles code.addresses.items code.steps.items all 0 entry all.first way in (at.0, at.1, at.2, at.3)
 
+  one_number : (j k a b : ℕ) → slice_get code.addresses.items j ≡ Some a → slice_get code.addresses.items k ≡ Some b → a ≡ b → j ≡ k
+  one_number j k a b at_j at_k same = same_Some j k (sym (numbered.known a j at_j) ∙ ap (get nat_cmp code.numbers) same ∙ numbered.known b k at_k)
+
   pub cycle_unbuilt : (k : ℕ) → IsCycle code.steps.items 0 k → IsUnbuiltCode image facts entry
   cycle_unbuilt k cycle =
       let at = joins_to_reaches image facts entry hardware.cycles code.addresses.items code.steps.items all 0 entry all.first cycle.0 in
@@ -76,7 +79,7 @@ module _ (image : Image) (facts : List Fact) (entry : ℕ) (hardware : Hardware)
       let target = number_of_target code.addresses.items led.0.target of.step.target led.1 led.3 of.stands.target in
       let rest = reaches_to_joins image facts entry hardware.cycles code.addresses.items code.steps.items all target.0 led.1.pc target.3 (subst (λ (x : Position). Reaches image facts entry x p) target.2 led.4) in
       let same : rest.1 ≡ at.1 = ap (λ (x : Position). x.pc) (sym rest.2 ∙ at.2) in
-      let back : rest.0 ≡ at.0 = same_Some rest.0 at.0 (sym (numbered.known rest.1 rest.0 rest.3) ∙ ap (get nat_cmp code.numbers) same ∙ numbered.known at.1 at.0 at.3) in
+      let back : rest.0 ≡ at.0 = one_number rest.0 at.0 rest.1 at.1 rest.3 at.3 same in
       acyclic at.0 at.4 (of.step, target.0, of.among, of.source, target.1, subst (λ (k : ℕ). Joins code.steps.items target.0 k) back rest.4)
   none_unbuilt acyclic (many ps apart count reached) = omega (arith, count, numbered.few, few ps code.addresses.items apart (All-weaker (Reaches image facts entry (start_of entry)) (λ (p : Position). (k : ℕ) × (a : ℕ) × (p ≡ start_of a) × (slice_get code.addresses.items k ≡ Some a)) placed ps reached))
 
