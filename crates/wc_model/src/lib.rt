@@ -13,6 +13,7 @@ mod kinds;
 mod machine;
 mod tables;
 mod values;
+pub mod walks;
 
 pub use elf_image::{Image, Name, Range};
 pub use entries::{Asked, End, Ended, Entry, Listing};
