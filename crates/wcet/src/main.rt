@@ -3,6 +3,8 @@
 
 mod answers;
 mod bound;
+#[cfg(test)]
+mod tests;
 mod words;
 
 use answers::{Answer, finish};
