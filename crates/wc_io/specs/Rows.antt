@@ -66,3 +66,7 @@ asked r = (r.path, r.sink)
 -- the rows that a call adds are for the first of these paths, in their order, each once
 abbrev pub AddsRows : List (List ℕ × Bool) → List Row → List Row → Type 0
 AddsRows paths old new = (rows : List Row) × (new ≡ old ++ rows) × ((n : ℕ) × (map asked rows ≡ take n paths))
+
+-- the rows that a call adds are for these paths, in their order
+abbrev pub AddsAllRows : List (List ℕ × Bool) → List Row → List Row → Type 0
+AddsAllRows paths old new = (rows : List Row) × (new ≡ old ++ rows) × (map asked rows ≡ paths)

@@ -10,6 +10,8 @@ mod memory_files;
 mod memory_house;
 mod opened;
 mod streams;
+#[cfg(test)]
+mod tests;
 mod texts;
 mod whole;
 
