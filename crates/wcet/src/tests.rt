@@ -2,6 +2,7 @@ use crate::Status;
 use crate::bound::bound_once;
 use std::alloc::{AllocError, Global};
 use std::test::Fail;
+use std::thread::Threads;
 use wc_io::{MemoryFile, MemoryHouse, MemorySink};
 
 fn put(file: &mut Vec<u8>, value: u32) -> Result<(), AllocError> {
@@ -90,13 +91,13 @@ fn words_of(alloc: Global, line: &str) -> Result<Vec<String>, AllocError> {
 }
 
 // The status of a call, and what it wrote; some writes of the output fail, by their numbers.
-fn call(
-    rt: &HostRuntime,
+fn call<R: Threads + Sync>(
+    rt: &R,
+    alloc: Global,
     line: &str,
     house: &mut MemoryHouse,
     failing: &[u64],
 ) -> Result<(Status, Vec<u8>), AllocError> {
-    let alloc = rt.alloc();
     let mut out = MemorySink {
         place: 0,
         path: String::new(alloc),
@@ -128,7 +129,7 @@ fn each_way_to_end_has_its_line_and_status(rt: HostRuntime) -> Result<(), Fail> 
             ("--help", 2, "usage\n"),
             ("", 2, "usage\n"),
         ] {
-            let (was, wrote) = call(&rt, line, &mut house, &[])?;
+            let (was, wrote) = call(&rt, alloc, line, &mut house, &[])?;
             assert_eq!(rt; was, status, "{line}");
             assert!(rt; wrote.as_slice() == text.as_bytes(), "{line}");
         }
@@ -140,7 +141,7 @@ fn each_way_to_end_has_its_line_and_status(rt: HostRuntime) -> Result<(), Fail> 
 fn an_empty_binary_is_refused(rt: HostRuntime) -> Result<(), Fail> {
     let alloc = rt.alloc();
     let mut house = house_of(alloc, Vec::new(alloc), 0, &[])?;
-    let (status, wrote) = call(&rt, "bound a.elf - - f", &mut house, &[])?;
+    let (status, wrote) = call(&rt, alloc, "bound a.elf - - f", &mut house, &[])?;
     assert_eq!(rt; status, 6);
     assert!(rt; wrote.as_slice() == b"refused 90 Unbuilt binary\n".as_slice());
     Ok(())
@@ -151,13 +152,13 @@ fn a_fault_of_the_outside_has_its_status(rt: HostRuntime) -> Result<(), Fail> {
     let alloc = rt.alloc();
     let line = "bound a.elf - - f";
     let mut late = house_of(alloc, program(alloc, &STRAIGHT)?, 7, &[2])?;
-    let (status, wrote) = call(&rt, line, &mut late, &[])?;
+    let (status, wrote) = call(&rt, alloc, line, &mut late, &[])?;
     assert_eq!(rt; status, 3);
     assert!(rt; wrote.as_slice() == b"read fault\n".as_slice());
     assert_eq!(rt; late.opened.len(), 1);
     let mut house = house_of(alloc, program(alloc, &STRAIGHT)?, 0, &[])?;
     for (write, text) in [(1, ""), (2, "bound ")] {
-        let (status, wrote) = call(&rt, line, &mut house, &[write])?;
+        let (status, wrote) = call(&rt, alloc, line, &mut house, &[write])?;
         assert_eq!(rt; status, 4);
         assert!(rt; wrote.as_slice() == text.as_bytes());
     }
