@@ -10,3 +10,7 @@ abbrev pub IfFault : {T : Type 0} → Result T Trouble → (Fault → Type 0) �
 IfFault (Ok _) is = Unit {0}
 IfFault (Err (Refused fault)) is = is fault
 IfFault (Err (Memory _)) is = Unit {0}
+
+abbrev pub IsMemory : Trouble → Type 0
+IsMemory (Refused _) = ⊥
+IsMemory (Memory _) = Unit {0}

@@ -1,7 +1,7 @@
 ghost use Rattle.std.specs.Prelude.{◌≡◌};
 
 use crate::Fault;
-use std::alloc::AllocError;
+use std::alloc::{AllocError, AllocFailed};
 
 /// Why an input has no reading: a fault of its own, or want of memory.
 #[derive(Clone, Copy, Debug, PartialEq, Eq)]
@@ -27,5 +27,15 @@ impl From<AllocError> for Trouble {
 
     fn from(error: AllocError) -> Trouble {
         Trouble::Memory(error)
+    }
+}
+
+impl<T: Drop> From<AllocFailed<T>> for Trouble {
+    ghost use Rattle.wc_base.specs.Troubles.{IsMemory};
+
+    ghost from_gives = { λ _ trouble. IsMemory trouble };
+
+    fn from(_refused: AllocFailed<T>) -> Trouble {
+        Trouble::Memory(AllocError)
     }
 }

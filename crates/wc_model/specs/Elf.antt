@@ -1,5 +1,5 @@
 -- The fields of a 32-bit ELF file. From the System V gABI, chapter 4 (Object Files).
-use Rattle.std.specs.Prelude.{ℕ, ◌+◌, ◌*◌, ◌/◌, ◌%◌, Bool, ◌&&◌, ◌==◌, nat_le, List, map, filter, find, drop, length, slice_index, slice_range, Option}
+use Rattle.std.specs.Prelude.{ℕ, ◌+◌, ◌*◌, ◌/◌, ◌%◌, Bool, ◌&&◌, ◌==◌, nat_le, List, map, find, drop, length, slice_index, slice_range, Option}
 use Rattle.std.specs.List.{range_with_len}
 use Rattle.byteorder.specs.Endian.{little_number}
 
@@ -98,9 +98,6 @@ section_headers file = entries (e_shoff file) 40 (e_shnum file)
 -- PT_LOAD with PF_X
 abbrev pub is_executable : List ℕ → ℕ → Bool
 is_executable file header = p_type file header == 1 && p_flags file header % 2 == 1
-
-abbrev pub executables : List ℕ → List ℕ
-executables file = filter (is_executable file) (program_headers file)
 
 -- the first SHT_SYMTAB, and the section that it links to
 abbrev pub symbol_section : List ℕ → Option ℕ
