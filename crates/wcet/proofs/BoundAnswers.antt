@@ -15,7 +15,7 @@ use Rattle.wc_model.specs.declared.values.Outcome.TheVariants.{Bound, Fault, Mem
 use Rattle.wcet.specs.declared.answers.Answer.{Answer}
 use Rattle.wcet.specs.declared.answers.Answer.TheVariants as answer
 use Rattle.wcet.specs.Answers.{line_of, outcome_line, refusal, status_of, unwritten, Finishes}
-use Rattle.wcet.specs.BoundCall.{Explains, Prints, IsBadBinary, Analyses, IsTold, IsReadable, IsUnreadable}
+use Rattle.wcet.specs.BoundCall.{Explains, Prints, IsBadBinary, Analyses, Analysed, IsTold, IsReadable, IsUnreadable}
 use Rattle.wcet.specs.Words.{IsBoundCall}
 
 failed_snoc : (rows : List Row) (path : List ℕ) → failed_count false rows < failed_count false (rows ++ row_failed path false true ∷ [])
@@ -91,3 +91,17 @@ module _ (words : List (List ℕ)) (files : List ℕ → Option (List ℕ)) (bin
   complete (answer.Analysed (Bound cycles)) e f t same quiet = inl (elim f [ inl s ↦ s.0 | inr s ↦ absurd (quiet s.2) ])
   complete (answer.Analysed (Fault fault)) e f t same quiet = inr (inl (elim f [ inl s ↦ s.0 | inr s ↦ absurd (quiet s.2) ]))
   complete (answer.Analysed Memory) e f t same quiet = inr (inr (elim f [ inl s ↦ s.0 | inr s ↦ s.0 ]))
+
+-- what is known of the bytes that were read is known of the told file
+read_fact : (told : Option (List ℕ)) (bytes : List ℕ) (P : List ℕ → Type 0) → IfSome told (λ all. bytes ≡ all) → P bytes → IfSome told P
+read_fact None bytes P same p = tt
+read_fact (Some all) bytes P same p = subst P same p
+
+pub explained : (told : Option (List ℕ)) (bytes binary name : List ℕ) (old new : List Row) → IfSome told (λ all. bytes ≡ all) → AddsSourceRow binary old new
+    → (a : Answer) → Analysed bytes name a → Explains told binary name old new a
+explained told bytes binary name old new same row answer.Usage known = absurd known
+explained told bytes binary name old new same row answer.ReadFault known = absurd known
+explained told bytes binary name old new same row answer.Memory known = inr row
+explained told bytes binary name old new same row (answer.Refused fault) known = (row, known.0, read_fact told bytes IsBadBinary same known.1)
+explained told bytes binary name old new same row (answer.Analysed outcome) known =
+    (row, read_fact told bytes (λ b. length b ≤ 16777216) same known.0, read_fact told bytes (λ b. Analyses b name outcome) same known.1)

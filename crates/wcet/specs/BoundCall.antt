@@ -26,6 +26,14 @@ IsBadBinary bytes = (16777216 < length bytes) ⊎ IsSome (image_fault bytes)
 abbrev pub Analyses : List ℕ → List ℕ → Outcome → Type 0
 Analyses bytes name outcome = (image : Image) × IsImageOf bytes image × chain (bare image) name outcome
 
+-- what may be answered for a binary of known bytes
+abbrev pub Analysed : List ℕ → List ℕ → Answer → Type 0
+Analysed bytes name answer.Usage = ⊥
+Analysed bytes name answer.ReadFault = ⊥
+Analysed bytes name answer.Memory = Unit {0}
+Analysed bytes name (answer.Refused fault) = (fault ≡ Unbuilt Binary) × IsBadBinary bytes
+Analysed bytes name (answer.Analysed outcome) = (length bytes ≤ 16777216) × Analyses bytes name outcome
+
 -- why each answer comes, from what is told of the file and the rows that the house has then
 abbrev pub Explains : Option (List ℕ) → List ℕ → List ℕ → List Row → List Row → Answer → Type 0
 Explains told binary name old new answer.Usage = ⊥

@@ -1,4 +1,4 @@
-ghost use Rattle.std.specs.Prelude.{◌≡◌, ◌≢◌, ◌<◌, ◌≤◌, ◌↔◌, ◌⊎◌, ℕ, List, [], ◌++◌, codes, map, string_bytes, false};
+ghost use Rattle.std.specs.Prelude.{◌≡◌, ◌≢◌, ◌<◌, ◌≤◌, ◌↔◌, ◌⊎◌, ℕ, List, [], ◌++◌, codes, length, map, string_bytes, false, IfOk};
 ghost use Rattle.std.specs.Io.KnownBytes.{Appends};
 ghost use Rattle.wc_base.specs.declared.faults.Fault.TheVariants.{Unbuilt};
 ghost use Rattle.wc_base.specs.declared.faults.UnbuiltWord.TheVariants.{Binary};
@@ -6,8 +6,10 @@ ghost use Rattle.wc_base.specs.declared.faults.Fault.{Fault as FaultCode};
 ghost use Rattle.wc_io.specs.Causes.{Rose};
 ghost use Rattle.wc_io.specs.Rows.{failed_count};
 ghost use Rattle.wc_io.specs.Writing.{AppendsPart};
+ghost use Rattle.wc_model.specs.Chain.{chain as chain_of};
+ghost use Rattle.wc_model.specs.Edits.{bare};
 ghost use Rattle.wcet.specs.Answers.{refusal};
-ghost use Rattle.wcet.specs.BoundCall.{Explains, Prints, IsBadBinary, IsTold, IsReadable, IsUnreadable, Opens};
+ghost use Rattle.wcet.specs.BoundCall.{Analysed, Explains, Prints, IsBadBinary, IsTold, IsReadable, IsUnreadable, Opens};
 ghost use Rattle.wcet.specs.Words.{IsFaultyCall};
 
 use crate::Status;
@@ -16,18 +18,40 @@ use crate::words::{BoundCall, bound_call};
 use std::alloc::{AllocError, Global};
 use std::thread::Threads;
 use wc_base::{Fault, Trouble, UnbuiltWord};
+use wc_elf::read_image;
 use wc_io::{House, ReadFile, Sink, read_file};
-use wc_model::Outcome;
+use wc_model::{Image, Outcome};
 
 /// The longest file that is read, in bytes.
 pub const MOST_BYTES: usize = 16_777_216;
+
+fn image_outcome(alloc: Global, image: Image, name: &str) -> Result<Outcome, AllocError>
+    ensures { IfOk result (chain_of (bare image) name.now) }
+{
+    Err(AllocError)
+}
+
+// What is known of a binary that was read.
+fn analysed(alloc: Global, bytes: Vec<u8>, name: &str) -> Answer
+    requires { length bytes.items ≤ 16777216 }
+    ensures { Analysed bytes.items name.now result }
+{
+    match read_image(alloc, bytes) {
+        Ok(image) => match image_outcome(alloc, image, name) {
+            Ok(outcome) => Answer::Analysed(outcome),
+            Err(AllocError) => Answer::Memory,
+        },
+        Err(Trouble::Fault(_)) => Answer::Refused(Fault::Unbuilt(UnbuiltWord::Binary)),
+        Err(Trouble::Memory(_)) => Answer::Memory,
+    }
+}
 
 fn answer_to<H: House>(alloc: Global, call: &BoundCall, house: &mut H) -> Answer
     ensures answer { Explains (H.file house.old call.now.binary.now) call.now.binary.now call.now.name.now (H.opened house.old) (H.opened house.new) result }
     ensures files { (p : List ℕ) → H.file house.new p ≡ H.file house.old p }
 {
     match read_file(alloc, house, call.binary, MOST_BYTES) {
-        Ok(bytes) => Answer::Memory,
+        Ok(bytes) => analysed(alloc, bytes, call.name),
         Err(ReadFile::Long) => Answer::Refused(Fault::Unbuilt(UnbuiltWord::Binary)),
         Err(ReadFile::Failed) => Answer::ReadFault,
         Err(ReadFile::Memory(_)) => Answer::Memory,
