@@ -7,28 +7,53 @@ ghost use Rattle.wc_io.specs.Causes.{Rose};
 ghost use Rattle.wc_io.specs.Rows.{failed_count};
 ghost use Rattle.wc_io.specs.Writing.{AppendsPart};
 ghost use Rattle.wc_model.specs.Chain.{chain as chain_of};
-ghost use Rattle.wc_model.specs.Edits.{bare};
+ghost use Rattle.wc_model.specs.Edits.{bare, default_hardware as default_hardware_of};
 ghost use Rattle.wcet.specs.Answers.{refusal};
 ghost use Rattle.wcet.specs.BoundCall.{Analysed, Explains, Prints, IsBadBinary, IsTold, IsReadable, IsUnreadable, Opens};
 ghost use Rattle.wcet.specs.Words.{IsFaultyCall};
 
 use crate::Status;
 use crate::answers::{Answer, finish};
+use crate::chain::chain;
 use crate::words::{BoundCall, bound_call};
 use std::alloc::{AllocError, Global};
 use std::thread::Threads;
 use wc_base::{Fault, Trouble, UnbuiltWord};
 use wc_elf::read_image;
 use wc_io::{House, ReadFile, Sink, read_file};
-use wc_model::{Image, Outcome};
+use wc_model::{Cycles, Hardware, Image, Outcome, Table};
 
 /// The longest file that is read, in bytes.
 pub const MOST_BYTES: usize = 16_777_216;
 
-fn image_outcome(alloc: Global, image: Image, name: &str) -> Result<Outcome, AllocError>
-    ensures { IfOk result (chain_of (bare image) name.now) }
+/// Each class takes one cycle, nothing else takes any, and there is no cache.
+fn default_hardware() -> Hardware
+    ensures { result ≡ default_hardware_of }
 {
-    Err(AllocError)
+    Hardware {
+        cycles: Cycles {
+            alu: 1,
+            mul: 1,
+            div: 1,
+            load: 1,
+            store: 1,
+            multi: 1,
+            branch: 1,
+            system: 1,
+            taken: 0,
+            per_register: 0,
+            hit: 0,
+            miss: 0,
+        },
+        cache: None,
+    }
+}
+
+fn image_outcome(alloc: Global, image: &Image, name: &str) -> Result<Outcome, AllocError>
+    ensures { IfOk result (chain_of (bare image.now) name.now) }
+{
+    let facts = Table::new(Vec::new(alloc));
+    chain(alloc, image, &facts, &default_hardware(), name.as_bytes())
 }
 
 // What is known of a binary that was read.
@@ -37,7 +62,7 @@ fn analysed(alloc: Global, bytes: Vec<u8>, name: &str) -> Answer
     ensures { Analysed bytes.items name.now result }
 {
     match read_image(alloc, bytes) {
-        Ok(image) => match image_outcome(alloc, image, name) {
+        Ok(image) => match image_outcome(alloc, &image, name) {
             Ok(outcome) => Answer::Analysed(outcome),
             Err(AllocError) => Answer::Memory,
         },

@@ -3,6 +3,7 @@
 
 mod answers;
 mod bound;
+mod chain;
 #[cfg(test)]
 mod tests;
 mod words;

@@ -1,9 +1,0 @@
-pub mod Numbering
-pub mod Many
-pub mod Expanding
-pub mod Expanded
-pub mod Explored
-pub mod Definitions
-pub mod Transfer
-pub mod Distinct
-pub mod Answer
