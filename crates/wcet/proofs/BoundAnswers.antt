@@ -81,6 +81,21 @@ module _ (words : List (List ℕ)) (files : List ℕ → Option (List ℕ)) (bin
       let told : files binary ≡ Some t.bytes = ap files (sym (same_file words binary name t.binary t.name call t.call)) ∙ t.told in
       absurd (analysed_good t.bytes name outcome (subst (λ (o : Option (List ℕ)). IfSome o (λ bytes. length bytes ≤ 16777216)) told e.1) (subst (λ (o : Option (List ℕ)). IfSome o (λ bytes. Analyses bytes name outcome)) told e.2) t.holds)
 
+  pub write_line : (a : Answer) → Explains (files binary) binary name old new a → Finishes name a held after before now status → status ≡ 4 → (outcome : Outcome) × Prints words files (AppendsPart held after) outcome
+  write_line (answer.Analysed (Bound cycles)) e f z = (Bound cycles, record { binary = binary; name = name; call = call; analysed = e.2; printed = elim f [ inl t ↦ absurd (omega (arith, t.0)) | inr t ↦ t.1 ] })
+  write_line (answer.Analysed (Fault fault)) e f z = (Fault fault, record { binary = binary; name = name; call = call; analysed = e.2; printed = elim f [ inl t ↦ absurd (omega (arith, t.0)) | inr t ↦ t.1 ] })
+  write_line (answer.Analysed Memory) e f z = absurd (elim f [ inl t ↦ omega (arith, t.0) | inr t ↦ omega (arith, t.0) ])
+  write_line a e f z = absurd (elim f [ inl t ↦ omega (arith, t.0) | inr t ↦ omega (arith, t.0) ])
+
+  pub known : (a : Answer) → Finishes name a held after before now status → status ≤ 6
+  known answer.Usage f = elim f [ inl t ↦ omega (arith, t.0) | inr t ↦ omega (arith, t.0) ]
+  known answer.ReadFault f = elim f [ inl t ↦ omega (arith, t.0) | inr t ↦ omega (arith, t.0) ]
+  known answer.Memory f = elim f [ inl t ↦ omega (arith, t.0) | inr t ↦ omega (arith, t.0) ]
+  known (answer.Refused _) f = elim f [ inl t ↦ omega (arith, t.0) | inr t ↦ omega (arith, t.0) ]
+  known (answer.Analysed (Bound _)) f = elim f [ inl t ↦ omega (arith, t.0) | inr t ↦ omega (arith, t.0) ]
+  known (answer.Analysed (Fault _)) f = elim f [ inl t ↦ omega (arith, t.0) | inr t ↦ omega (arith, t.0) ]
+  known (answer.Analysed Memory) f = elim f [ inl t ↦ omega (arith, t.0) | inr t ↦ omega (arith, t.0) ]
+
   pub complete : (a : Answer) → Explains (files binary) binary name old new a → Finishes name a held after before now status → IsReadable words files → failed_count false new ≡ failed_count false old → (Rose before now → ⊥) → (status ≡ 0) ⊎ ((status ≡ 1) ⊎ (status ≡ 5))
   complete answer.Usage e f t same quiet = absurd e
   complete answer.ReadFault e f t same quiet = let rose = subst (λ (rows : List Row). failed_count false old < failed_count false rows) (sym e) (failed_snoc old binary) in absurd (omega arith)

@@ -6,6 +6,7 @@ ghost use Rattle.wc_base.specs.declared.faults.Fault.{Fault as FaultCode};
 ghost use Rattle.wc_io.specs.Causes.{Rose};
 ghost use Rattle.wc_io.specs.Rows.{failed_count};
 ghost use Rattle.wc_io.specs.Writing.{AppendsPart};
+ghost use Rattle.wc_model.specs.declared.values.Outcome.{Outcome as OutcomeOf};
 ghost use Rattle.wc_model.specs.Chain.{chain as chain_of};
 ghost use Rattle.wc_model.specs.Edits.{bare, default_hardware as default_hardware_of};
 ghost use Rattle.wcet.specs.Answers.{refusal};
@@ -105,6 +106,7 @@ pub fn bound_once<R: Threads + Sync, H: House, K: Sink>(
 
     // 4: only where the output failed.
     ensures write { result ≡ 4 → Rose (K.faults out.old) (K.faults out.new) }
+    ensures write_line { result ≡ 4 → (outcome : OutcomeOf) × Prints (map string_bytes words.now) (H.file house.old) (AppendsPart (K.held out.old) (K.held out.new)) outcome }
 
     // 5: want of memory, which may come at any time.
     ensures memory_line { result ≡ 5 → AppendsPart (K.held out.old) (K.held out.new) (codes "memory\n") }
@@ -117,6 +119,7 @@ pub fn bound_once<R: Threads + Sync, H: House, K: Sink>(
     // With a readable binary and no fault of the outside the chain is answered.
     ensures complete { IsReadable (map string_bytes words.now) (H.file house.old) → failed_count false (H.opened house.new) ≡ failed_count false (H.opened house.old) → (Rose (K.faults out.old) (K.faults out.new) → ⊥) → (result ≡ 0) ⊎ ((result ≡ 1) ⊎ (result ≡ 5)) }
 
+    ensures known { result ≤ 6 }
     ensures opened { Opens (map string_bytes words.now) (H.opened house.old) (H.opened house.new) result }
     ensures unopened { IsFaultyCall (map string_bytes words.now) → H.opened house.new ≡ H.opened house.old }
     ensures files { (p : List ℕ) → H.file house.new p ≡ H.file house.old p }

@@ -164,3 +164,165 @@ fn a_fault_of_the_outside_has_its_status(rt: HostRuntime) -> Result<(), Fail> {
     }
     Ok(())
 }
+
+// The line of `bound` for code at 0x8000, and its status.
+fn outcome_of<R: Threads + Sync>(
+    rt: &R,
+    alloc: Global,
+    words: &[u32],
+) -> Result<(Status, Vec<u8>), AllocError> {
+    let mut house = house_of(alloc, program(alloc, words)?, 0, &[])?;
+    call(rt, alloc, "bound a.elf - - f", &mut house, &[])
+}
+
+#[test]
+fn a_bound_is_the_greatest_cost_over_all_paths(rt: HostRuntime) -> Result<(), Fail> {
+    let alloc = rt.alloc();
+    let unbuilt = "refused 90 Unbuilt code\n";
+    for (code, text) in [
+        // cmp; beq over two words; the fall-through is longer than the jump
+        (
+            [
+                0xE350_0000,
+                0x0A00_0001,
+                0xE3A0_0001,
+                0xE3A0_0001,
+                0xE12F_FF1E,
+            ],
+            "bound f 5\n",
+        ),
+        // a return in the middle that is taken or not
+        (
+            [
+                0xE3A0_0001,
+                0x012F_FF1E,
+                0xE3A0_0001,
+                0xE3A0_0001,
+                0xE12F_FF1E,
+            ],
+            "bound f 5\n",
+        ),
+        // a jump over words that are no instructions
+        (
+            [
+                0xEA00_0002,
+                0xFFFF_FFFF,
+                0xFFFF_FFFF,
+                0xFFFF_FFFF,
+                0xE12F_FF1E,
+            ],
+            "bound f 2\n",
+        ),
+        // a jump out of the code
+        (
+            [
+                0xE350_0000,
+                0x0A00_0010,
+                0xE3A0_0001,
+                0xE3A0_0001,
+                0xE12F_FF1E,
+            ],
+            unbuilt,
+        ),
+        // a jump to itself
+        (
+            [
+                0xEAFF_FFFE,
+                0xE3A0_0001,
+                0xE3A0_0001,
+                0xE3A0_0001,
+                0xE12F_FF1E,
+            ],
+            unbuilt,
+        ),
+        // a loop beside an exit
+        (
+            [
+                0xE350_0000,
+                0x0A00_0001,
+                0xE3A0_0001,
+                0xE12F_FF1E,
+                0xEAFF_FFFE,
+            ],
+            unbuilt,
+        ),
+        // a loop of two words
+        (
+            [
+                0xE3A0_0001,
+                0xE250_0001,
+                0x1AFF_FFFD,
+                0xE3A0_0001,
+                0xE12F_FF1E,
+            ],
+            unbuilt,
+        ),
+        // the code ends without a return
+        (
+            [
+                0xE3A0_0001,
+                0xE3A0_0001,
+                0xE3A0_0001,
+                0xE3A0_0001,
+                0xE3A0_0001,
+            ],
+            unbuilt,
+        ),
+        // a word that is no instruction, and a jump to what a register says
+        (
+            [
+                0xE3A0_0001,
+                0xE7F0_00F0,
+                0xE3A0_0001,
+                0xE3A0_0001,
+                0xE12F_FF1E,
+            ],
+            unbuilt,
+        ),
+        (
+            [
+                0xE3A0_0001,
+                0xE12F_FF13,
+                0xE3A0_0001,
+                0xE3A0_0001,
+                0xE12F_FF1E,
+            ],
+            unbuilt,
+        ),
+    ] {
+        let (_, wrote) = outcome_of(&rt, alloc, &code)?;
+        assert!(rt; wrote.as_slice() == text.as_bytes(), "{text}");
+    }
+    Ok(())
+}
+
+#[test]
+fn forty_branches_in_a_row_are_answered_at_once(rt: HostRuntime) -> Result<(), Fail> {
+    let alloc = rt.alloc();
+    let mut code = Vec::new(alloc);
+    for _ in 0..40 {
+        // beq over the next word
+        code.push(0x0A00_0000)?;
+        code.push(0xE1A0_0000)?;
+    }
+    code.push(0xE12F_FF1E)?;
+    let (status, wrote) = outcome_of(&rt, alloc, &code)?;
+    assert_eq!(rt; status, 0);
+    assert!(rt; wrote.as_slice() == b"bound f 81\n".as_slice());
+    Ok(())
+}
+
+#[test]
+fn at_most_a_hundred_thousand_positions_are_analysed(rt: HostRuntime) -> Result<(), Fail> {
+    let alloc = rt.alloc();
+    for (count, text) in [
+        (99_999, "bound f 100000\n"),
+        (100_000, "refused 90 Unbuilt code\n"),
+    ] {
+        let mut code = vec![in alloc; 0xE1A0_0000; count]?;
+        code.push(0xE12F_FF1E)?;
+        let (_, wrote) = outcome_of(&rt, alloc, &code)?;
+        assert!(rt; wrote.as_slice() == text.as_bytes(), "{text}");
+    }
+    Ok(())
+}

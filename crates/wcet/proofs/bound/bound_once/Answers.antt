@@ -1,4 +1,4 @@
-use Rattle.wcet.proofs.BoundAnswers.{bound, refused, read, read_line, file, file_line, bad_file, complete}
+use Rattle.wcet.proofs.BoundAnswers.{bound, refused, read, read_line, file, file_line, bad_file, write_line, known, complete}
 use Rattle.wcet.proofs.bound.bound_once.Goals as goal
 
 pub returns-in-Some-clause-bound : goal.returns-in-Some-clause-bound
@@ -25,3 +25,6 @@ returns-in-Some-clause-complete g c = complete _ (g.H.House.file c.args.house.no
 -- words of no known form name no binary
 pub returns-in-None-clause-complete : goal.returns-in-None-clause-complete
 returns-in-None-clause-complete g c told same quiet = absurd (c.in-None.ensures told.binary told.name told.call)
+
+pub returns-in-Some-clause-write_line : goal.returns-in-Some-clause-write_line
+returns-in-Some-clause-write_line g c = write_line _ (g.H.House.file c.args.house.now) _ _ c.in-Some.ensures _ _ _ _ _ _ _ _ c.answer_to-answer.ensures.answer c.finish-in-Some.ensures
