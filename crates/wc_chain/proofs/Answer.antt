@@ -1,21 +1,21 @@
 -- The outcome of a function, from what its exploration and the greatest cost of a walk say.
-use Rattle.std.proofs.Common.{ℕ, zero, ◌≡◌, ◌+◌, ◌<◌, ◌≤◌, List, [], ◌∷◌, Option, None, Some, IfSome, IsSome, length, refl, sym, ap, subst, ◌∙◌, nat_cmp, arith}
+use Rattle.std.proofs.Common.{ℕ, ◌≡◌, ◌<◌, List, Option, None, Some, IfSome, IsSome, length, sym, ap, subst, ◌∙◌, nat_cmp, arith}
 use Rattle.std.specs.BTreeMap.{get}
-use Rattle.std.specs.List.{All, AllPairs, Contains, slice_get}
-use Rattle.std.proofs.lemmas.Option.{none-some, same_Some, slice_get_within}
-use Rattle.std.proofs.lemmas.List.Elements.{All-weaker, All-from_get_or, All-contains_itself}
+use Rattle.std.specs.List.{Contains, slice_get}
+use Rattle.std.proofs.lemmas.Option.{same_Some, slice_get_within}
+use Rattle.std.proofs.lemmas.List.Elements.{All-weaker, All-contains_itself}
 use Rattle.wc_base.specs.declared.faults.Fault.{Fault}
 use Rattle.wc_model.specs.declared.elf_image.Image.{Image}
 use Rattle.wc_model.specs.declared.flow_facts.Fact.{Fact}
 use Rattle.wc_model.specs.declared.flow_system.SystemStep.{SystemStep}
 use Rattle.wc_model.specs.declared.machine.Hardware.{Hardware}
 use Rattle.wc_model.specs.Chain.{IsUnbuiltInsn, IsUnbuiltCode, faulty, unbuilt, loops, many, IsGreatest}
-use Rattle.wc_model.specs.Paths.{Reaches, Leads, IsPath, path_cycles}
+use Rattle.wc_model.specs.Paths.{Reaches}
 use Rattle.wc_model.specs.Positions.{Position, start_of}
-use Rattle.wc_model.specs.Steps.{Step, fault_at, insn_at, steps_of}
-use Rattle.wc_model.specs.Walks.{AreSteps, Reaches as Joins, Leads as LeadsOn, IsWalk, walk_cost, IsCycle, IsAcyclicFrom, HasStep, IsBest, IsCostFrom}
+use Rattle.wc_model.specs.Steps.{fault_at, insn_at, steps_of}
+use Rattle.wc_model.specs.Walks.{AreSteps, Reaches as Joins, IsWalk, walk_cost, IsCycle, IsAcyclicFrom, HasStep, IsBest}
 use Rattle.wc_chain.specs.declared.chain.code.Code.{Code}
-use Rattle.wc_chain.specs.Exploring.{IsTarget, IsStepOf, IsBuilt, IsExplored}
+use Rattle.wc_chain.specs.Exploring.{IsTarget, IsExplored}
 use Rattle.wc_chain.specs.Numbers.{IsNumbered}
 use Rattle.wc_chain.proofs.Definitions.{leads}
 use Rattle.wc_chain.proofs.Transfer.{number_of_target, target_of_number, joins_to_reaches, reaches_to_joins, path_to_walk, walk_to_path}
@@ -32,10 +32,10 @@ module _ (image : Image) (facts : List Fact) (entry : ℕ) (hardware : Hardware)
 
   pub are_steps : AreSteps (length code.addresses.items) code.steps.items
   are_steps = record {
-      sources = All-weaker (Contains code.steps.items) (λ (t : SystemStep). t.source < length code.addresses.items) (λ t among. let of = all.sound t among in slice_get_within code.addresses.items t.source of.at of.source) code.steps.items (All-contains_itself code.steps.items);
-      targets = All-weaker (Contains code.steps.items) (λ (t : SystemStep). IfSome t.target (λ q. q < length code.addresses.items)) (λ t among. let of = all.sound t among in target_within code.addresses.items of.step.target t.target of.stands.target) code.steps.items (All-contains_itself code.steps.items);
-      sorted = all.sorted;
-    }
+    sources = All-weaker (Contains code.steps.items) (λ (t : SystemStep). t.source < length code.addresses.items) (λ t among. let of = all.sound t among in slice_get_within code.addresses.items t.source of.at of.source) code.steps.items (All-contains_itself code.steps.items);
+    targets = All-weaker (Contains code.steps.items) (λ (t : SystemStep). IfSome t.target (λ q. q < length code.addresses.items)) (λ t among. let of = all.sound t among in target_within code.addresses.items of.step.target t.target of.stands.target) code.steps.items (All-contains_itself code.steps.items);
+    sorted = all.sorted;
+  }
 
   pub not_empty : 0 < length code.addresses.items
   not_empty = slice_get_within code.addresses.items 0 entry all.first
@@ -56,11 +56,13 @@ module _ (image : Image) (facts : List Fact) (entry : ℕ) (hardware : Hardware)
       let target = target_of_number code.addresses.items of.step.target led.0.target led.1 led.4 of.stands.target in
       let rest = joins_to_reaches image facts entry hardware.cycles code.addresses.items code.steps.items all led.1 target.0 target.2 led.5 in
       let back : rest.0 ≡ at.0 = same_Some rest.0 at.0 (sym rest.1 ∙ at.1) in
-      loops (start_of at.0) at.2
-        (of.step, start_of target.0,
-         subst (λ (x : ℕ). Contains (steps_of image facts entry (start_of x)) of.step) same of.among,
-         target.1,
-         subst (λ (x : ℕ). Reaches image facts entry (start_of target.0) (start_of x)) back rest.2)
+      loops (start_of at.0) at.2 (
+        of.step,
+        start_of target.0,
+        subst (λ (x : ℕ). Contains (steps_of image facts entry (start_of x)) of.step) same of.among,
+        target.1,
+        subst (λ (x : ℕ). Reaches image facts entry (start_of target.0) (start_of x)) back rest.2,
+      )
 
   -- nothing is left that isn't analysed
   pub none_unbuilt : IsAcyclicFrom code.steps.items 0 → IsUnbuiltCode image facts entry → ⊥
@@ -100,8 +102,8 @@ module _ (image : Image) (facts : List Fact) (entry : ℕ) (hardware : Hardware)
         is_path = path.1;
         attained = path.2 ∙ some.2;
         most = λ other is_path.
-          let walk = path_to_walk image facts entry hardware.cycles code.addresses.items code.steps.items all other 0 entry all.first is_path in
-          let most = of.most walk.0 walk.1 in
-          let same : bound ≡ most.0 = same_Some bound most.0 (sym is ∙ most.1) in
-          omega (arith, most.2, walk.2);
+            let walk = path_to_walk image facts entry hardware.cycles code.addresses.items code.steps.items all other 0 entry all.first is_path in
+            let most = of.most walk.0 walk.1 in
+            let same : bound ≡ most.0 = same_Some bound most.0 (sym is ∙ most.1) in
+            omega (arith, most.2, walk.2);
       }

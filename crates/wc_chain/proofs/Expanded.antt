@@ -1,6 +1,6 @@
 -- What becomes of an address that is expanded.
-use Rattle.std.proofs.Common.{ℕ, ◌≡◌, ◌+◌, ◌<◌, ◌≤◌, Bool, true, false, List, [], ◌∷◌, ◌++◌, Option, None, Some, IsSome, option_and_then, length, refl, sym, ap, subst, ◌∙◌, append-nil}
-use Rattle.std.specs.List.{Contains, slice_get}
+use Rattle.std.proofs.Common.{ℕ, ◌≡◌, ◌+◌, Bool, true, false, List, [], ◌++◌, Option, None, Some, IsSome, option_and_then, refl, sym, ap, subst, ◌∙◌, append-nil}
+use Rattle.std.specs.List.{slice_get}
 use Rattle.std.proofs.lemmas.Option.{none-some}
 use Rattle.wc_model.specs.declared.elf_image.Image.{Image}
 use Rattle.wc_model.specs.declared.flow_facts.Fact.{Fact}
@@ -9,12 +9,12 @@ use Rattle.wc_model.specs.declared.machine.Cycles.{Cycles}
 use Rattle.wc_model.specs.Chain.{IsUnbuiltInsn, IsUnbuiltCode, faulty, unbuilt}
 use Rattle.wc_model.specs.Instruction.{insn_of}
 use Rattle.wc_model.specs.Paths.{insn_cycles}
-use Rattle.wc_model.specs.Positions.{Position, start_of}
+use Rattle.wc_model.specs.Positions.{start_of}
 use Rattle.wc_model.specs.Steps.{Step, control_fault, insn_fault, word_fault, fault_at, insn_at, insn_steps, steps_unless, steps_known, steps_of}
 use Rattle.wc_model.specs.Words.{word_at}
 use Rattle.wc_chain.specs.declared.chain.code.Code.{Code}
 use Rattle.wc_chain.specs.declared.chain.ways.Ways.{Ways}
-use Rattle.wc_chain.specs.Exploring.{IsBuilt, IsExplored, IsExpanded}
+use Rattle.wc_chain.specs.Exploring.{IsExplored, IsExpanded}
 use Rattle.wc_chain.specs.Numbers.{IsNumbered, HasWay}
 use Rattle.wc_chain.specs.Ways.{way_steps, AreWays}
 use Rattle.wc_chain.proofs.Expanding.{IsMiddle, middle_begins, middle_ends, way_added, way_full, way_numbered}
@@ -62,12 +62,13 @@ module _ (image : Image) (facts : List Fact) (entry : ℕ) (cycles : Cycles) (co
         pub done : (new : Code) (more : ℕ) → more ≡ insn_cycles cycles false insn → HasWay mid new count ways.next more true → IsExplored image facts entry cycles (count + 1) new.addresses.items new.steps.items
         done new more costs_next has_next =
             middle_ends image facts entry cycles count at new.addresses.items new.steps.items
-              (way_added image facts entry cycles count at insn known mid new false ways.next more [] costs_next half has_next)
-              (record { faultless = fault_is image facts entry at insn known ∙ are.faultless entry facts; insn = insn; known = known; built = are.built })
+            (way_added image facts entry cycles count at insn known mid new false ways.next more [] costs_next half has_next)
+            (record { faultless = fault_is image facts entry at insn known ∙ are.faultless entry facts; insn = insn; known = known; built = are.built })
 
 -- the second way
 pub expanded : (image : Image) (cycles : Cycles) (count at : ℕ) (old mid new : Code) (insn : Insn) (ways : Ways) (taken_cost next_cost : ℕ) (more : Bool) → slice_get old.addresses.items count ≡ Some at → IsNumbered old → insn_at image at ≡ Some insn → AreWays at insn ways → taken_cost ≡ insn_cycles cycles true insn → next_cost ≡ insn_cycles cycles false insn → HasWay old mid count ways.taken taken_cost true → HasWay mid new count ways.next next_cost more → IsExpanded image cycles count old new more
 expanded image cycles count at old mid new insn ways taken_cost next_cost false placed numbered known are costs costs_next has has_next = λ facts entry core. next_full image facts entry cycles count at old placed core insn known ways are mid taken_cost costs has new next_cost (way_numbered old mid count ways.taken taken_cost numbered has) has_next
-expanded image cycles count at old mid new insn ways taken_cost next_cost true placed numbered known are costs costs_next has has_next =
-    (way_numbered mid new count ways.next next_cost (way_numbered old mid count ways.taken taken_cost numbered has) has_next,
-     λ facts entry core. done image facts entry cycles count at old placed core insn known ways are mid taken_cost costs has new next_cost costs_next has_next)
+expanded image cycles count at old mid new insn ways taken_cost next_cost true placed numbered known are costs costs_next has has_next = (
+  way_numbered mid new count ways.next next_cost (way_numbered old mid count ways.taken taken_cost numbered has) has_next,
+  λ facts entry core. done image facts entry cycles count at old placed core insn known ways are mid taken_cost costs has new next_cost costs_next has_next,
+)

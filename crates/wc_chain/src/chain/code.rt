@@ -4,11 +4,11 @@ ghost use Rattle.wc_chain.specs.Numbers.{IsNew, IsNumbered, IsAdded, HasWay};
 ghost use Rattle.wc_model.specs.Steps.{insn_at};
 
 use crate::chain::costs::of_step;
-use crate::chain::ways::{ways_out, Way};
+use crate::chain::ways::{Way, ways_out};
 use std::alloc::{AllocError, Global};
 use std::collections::BTreeMap;
-use wc_base::Addr;
 use wc_a32::insn;
+use wc_base::Addr;
 use wc_model::{Cycles, Image, Insn, SystemStep};
 
 /// How many positions are analysed at most.
@@ -66,7 +66,11 @@ impl Code {
                 number => number,
             },
         };
-        self.steps.push(SystemStep { source, target, cost })?;
+        self.steps.push(SystemStep {
+            source,
+            target,
+            cost,
+        })?;
         Ok(true)
     }
 
@@ -99,7 +103,12 @@ fn insn_at(image: &Image, at: Addr) -> Option<Insn>
 
 /// The addresses that the function at `entry` reaches, and the steps between them; `None` where there is
 /// code that isn't analysed.
-pub fn explore(alloc: Global, image: &Image, cycles: &Cycles, entry: Addr) -> Result<Option<Code>, AllocError>
+pub fn explore(
+    alloc: Global,
+    image: &Image,
+    cycles: &Cycles,
+    entry: Addr,
+) -> Result<Option<Code>, AllocError>
     ensures { IfOk result (IsExploration image.now cycles.now entry) }
 {
     let mut code = Code::new(alloc, entry)?;

@@ -27,9 +27,18 @@ pub fn ways_out(at: Addr, insn: &Insn) -> Option<Ways>
     let next = Way::To(at.wrapping_add(4));
     let passed = if insn.always { Way::Closed } else { next };
     match insn.control {
-        Control::Next => Some(Ways { taken: Way::Closed, next }),
-        Control::Jump(target) => Some(Ways { taken: Way::To(target), next: passed }),
-        Control::Return => Some(Ways { taken: Way::Out, next: passed }),
+        Control::Next => Some(Ways {
+            taken: Way::Closed,
+            next,
+        }),
+        Control::Jump(target) => Some(Ways {
+            taken: Way::To(target),
+            next: passed,
+        }),
+        Control::Return => Some(Ways {
+            taken: Way::Out,
+            next: passed,
+        }),
         Control::Call(_) | Control::IndirectJump | Control::IndirectCall => None,
     }
 }

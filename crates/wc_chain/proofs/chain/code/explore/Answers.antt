@@ -1,13 +1,13 @@
-use Rattle.std.proofs.Common.{ℕ, ◌≡◌, ◌≤◌, Bool, true, false, List, length, sym, subst, arith}
+use Rattle.std.proofs.Common.{◌≤◌, true, false, length, subst, arith}
 use Rattle.wc_chain.specs.Exploring.{IsExpanded}
 use Rattle.wc_chain.proofs.Explored.{new_explored, all_explored}
 use Rattle.wc_chain.proofs.chain.code.explore.Goals as goal
 
 pub loop-number-init : goal.loop-number-init
 loop-number-init c = record {
-    numbered = c.in_ok-code.ensures.numbered;
-    explored = λ facts. new_explored c.args.image.now facts c.args.entry c.args.cycles.now c.in_ok-code.code c.in_ok-code.ensures;
-  }
+  numbered = c.in_ok-code.ensures.numbered;
+  explored = λ facts. new_explored c.args.image.now facts c.args.entry c.args.cycles.now c.in_ok-code.code c.in_ok-code.ensures;
+}
 
 pub returns-then-not-branch : goal.returns-then-not-branch
 returns-then-not-branch c = λ facts.

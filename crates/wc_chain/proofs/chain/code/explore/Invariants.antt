@@ -1,4 +1,4 @@
-use Rattle.std.proofs.Common.{◌-◌, ◌≤◌, List, length}
+use Rattle.std.proofs.Common.{◌-◌, List}
 use Rattle.wc_model.specs.declared.flow_facts.Fact.{Fact}
 use Rattle.wc_chain.specs.Exploring.{IsExplored}
 use Rattle.wc_chain.specs.Numbers.{IsNumbered}

@@ -1,10 +1,7 @@
-use Rattle.std.proofs.Common.{ℕ, ◌≡◌, Bool, true, false, List, None, Some, Result, Ok, Err, IfOk, length, refl, sym, subst, ◌∙◌}
+use Rattle.std.proofs.Common.{◌≡◌, true, false, Some, Result, Ok, Err, IfOk, length, refl, sym, subst, ◌∙◌}
 use Rattle.std.specs.List.{slice_get}
 use Rattle.std.proofs.lemmas.Option.{slice_get_read}
-use Rattle.wc_model.specs.Chain.{IsUnbuiltInsn}
-use Rattle.wc_model.specs.Steps.{insn_at}
 use Rattle.wc_chain.specs.Numbers.{HasWay}
-use Rattle.wc_chain.specs.Ways.{AreWays}
 use Rattle.wc_chain.proofs.Expanded.{not_known, not_built, taken_full, expanded}
 use Rattle.wc_chain.proofs.chain.code.Code.expand.Goals as goal
 
