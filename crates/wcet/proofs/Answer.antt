@@ -1,21 +1,21 @@
 -- The outcome of a function, from what its exploration and the greatest cost of a walk say.
-use Rattle.std.proofs.Common.{ℕ, zero, ◌≡◌, ◌+◌, ◌<◌, ◌≤◌, List, [], ◌∷◌, Option, None, Some, IfSome, IsSome, length, refl, sym, ap, subst, ◌∙◌, nat_cmp, arith}
+use Rattle.std.proofs.Common.{ℕ, ◌≡◌, ◌<◌, List, Option, None, Some, IfSome, IsSome, length, sym, ap, subst, ◌∙◌, nat_cmp, arith}
 use Rattle.std.specs.BTreeMap.{get}
-use Rattle.std.specs.List.{All, AllPairs, Contains, slice_get}
-use Rattle.std.proofs.lemmas.Option.{none-some, same_Some, slice_get_within}
-use Rattle.std.proofs.lemmas.List.Elements.{All-weaker, All-from_get_or, All-contains_itself}
+use Rattle.std.specs.List.{Contains, slice_get}
+use Rattle.std.proofs.lemmas.Option.{same_Some, slice_get_within}
+use Rattle.std.proofs.lemmas.List.Elements.{All-weaker, All-contains_itself}
 use Rattle.wc_base.specs.declared.faults.Fault.{Fault}
 use Rattle.wc_model.specs.declared.elf_image.Image.{Image}
 use Rattle.wc_model.specs.declared.flow_facts.Fact.{Fact}
 use Rattle.wc_model.specs.declared.flow_system.SystemStep.{SystemStep}
 use Rattle.wc_model.specs.declared.machine.Hardware.{Hardware}
 use Rattle.wc_model.specs.Chain.{IsUnbuiltInsn, IsUnbuiltCode, faulty, unbuilt, loops, many, IsGreatest}
-use Rattle.wc_model.specs.Paths.{Reaches, Leads, IsPath, path_cycles}
+use Rattle.wc_model.specs.Paths.{Reaches}
 use Rattle.wc_model.specs.Positions.{Position, start_of}
-use Rattle.wc_model.specs.Steps.{Step, fault_at, insn_at, steps_of}
-use Rattle.wc_model.specs.Walks.{AreSteps, Reaches as Joins, Leads as LeadsOn, IsWalk, walk_cost, IsCycle, IsAcyclicFrom, HasStep, IsBest, IsCostFrom}
+use Rattle.wc_model.specs.Steps.{fault_at, insn_at, steps_of}
+use Rattle.wc_model.specs.Walks.{AreSteps, Reaches as Joins, IsWalk, walk_cost, IsCycle, IsAcyclicFrom, HasStep, IsBest}
 use Rattle.wcet.specs.declared.chain.code.Code.{Code}
-use Rattle.wcet.specs.Exploring.{IsTarget, IsStepOf, IsBuilt, IsExplored}
+use Rattle.wcet.specs.Exploring.{IsTarget, IsExplored}
 use Rattle.wcet.specs.Numbers.{IsNumbered}
 use Rattle.wcet.proofs.Definitions.{leads}
 use Rattle.wcet.proofs.Transfer.{number_of_target, target_of_number, joins_to_reaches, reaches_to_joins, path_to_walk, walk_to_path}

@@ -1,6 +1,6 @@
 -- What becomes of an address that is expanded.
-use Rattle.std.proofs.Common.{ℕ, ◌≡◌, ◌+◌, ◌<◌, ◌≤◌, Bool, true, false, List, [], ◌∷◌, ◌++◌, Option, None, Some, IsSome, option_and_then, length, refl, sym, ap, subst, ◌∙◌, append-nil}
-use Rattle.std.specs.List.{Contains, slice_get}
+use Rattle.std.proofs.Common.{ℕ, ◌≡◌, ◌+◌, Bool, true, false, List, [], ◌++◌, Option, None, Some, IsSome, option_and_then, refl, sym, ap, subst, ◌∙◌, append-nil}
+use Rattle.std.specs.List.{slice_get}
 use Rattle.std.proofs.lemmas.Option.{none-some}
 use Rattle.wc_model.specs.declared.elf_image.Image.{Image}
 use Rattle.wc_model.specs.declared.flow_facts.Fact.{Fact}
@@ -9,12 +9,12 @@ use Rattle.wc_model.specs.declared.machine.Cycles.{Cycles}
 use Rattle.wc_model.specs.Chain.{IsUnbuiltInsn, IsUnbuiltCode, faulty, unbuilt}
 use Rattle.wc_model.specs.Instruction.{insn_of}
 use Rattle.wc_model.specs.Paths.{insn_cycles}
-use Rattle.wc_model.specs.Positions.{Position, start_of}
+use Rattle.wc_model.specs.Positions.{start_of}
 use Rattle.wc_model.specs.Steps.{Step, control_fault, insn_fault, word_fault, fault_at, insn_at, insn_steps, steps_unless, steps_known, steps_of}
 use Rattle.wc_model.specs.Words.{word_at}
 use Rattle.wcet.specs.declared.chain.code.Code.{Code}
 use Rattle.wcet.specs.declared.chain.ways.Ways.{Ways}
-use Rattle.wcet.specs.Exploring.{IsBuilt, IsExplored, IsExpanded}
+use Rattle.wcet.specs.Exploring.{IsExplored, IsExpanded}
 use Rattle.wcet.specs.Numbers.{IsNumbered, HasWay}
 use Rattle.wcet.specs.Ways.{way_steps, AreWays}
 use Rattle.wcet.proofs.Expanding.{IsMiddle, middle_begins, middle_ends, way_added, way_full, way_numbered}

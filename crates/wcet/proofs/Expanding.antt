@@ -1,17 +1,17 @@
 -- One more address is expanded, a step after the other.
 use Rattle.std.proofs.Common.{ℕ, zero, suc, ◌≡◌, ◌+◌, ◌<◌, ◌≤◌, ◌⊎◌, inl, inr, ⊎_elim, Bool, true, false, List, [], ◌∷◌, ◌++◌, Option, None, Some, length, get_or, refl, sym, ap, subst, ◌∙◌, arith}
-use Rattle.std.specs.List.{AllPairs, Contains, slice_get}
+use Rattle.std.specs.List.{Contains, slice_get}
 use Rattle.std.proofs.lemmas.Bool.{cases_lt}
 use Rattle.std.proofs.lemmas.List.Elements.{Contains-push, Contains-push_cases, Contains-append_left, Contains-get_or}
 use Rattle.std.proofs.lemmas.List.Quantifiers.{all_pairs_push}
-use Rattle.std.proofs.lemmas.Option.{none-some, same_Some, slice_get_within}
+use Rattle.std.proofs.lemmas.Option.{same_Some, slice_get_within}
 use Rattle.wc_model.specs.declared.elf_image.Image.{Image}
 use Rattle.wc_model.specs.declared.flow_facts.Fact.{Fact}
 use Rattle.wc_model.specs.declared.flow_system.SystemStep.{SystemStep}
 use Rattle.wc_model.specs.declared.instructions.Insn.{Insn}
 use Rattle.wc_model.specs.declared.machine.Cycles.{Cycles}
 use Rattle.wc_model.specs.Chain.{IsUnbuiltCode}
-use Rattle.wc_model.specs.Paths.{Reaches, along, step_cycles, known_cycles, insn_cycles}
+use Rattle.wc_model.specs.Paths.{along, known_cycles, insn_cycles}
 use Rattle.wc_model.specs.Positions.{Position, start_of}
 use Rattle.wc_model.specs.Steps.{Step, insn_at, steps_of}
 use Rattle.wc_model.proofs.Places.{get_left, get_push_cases, get_within}
@@ -19,7 +19,7 @@ use Rattle.wcet.specs.declared.chain.code.Code.{Code}
 use Rattle.wcet.specs.declared.chain.ways.Way.{Way}
 use Rattle.wcet.specs.declared.chain.ways.Way.TheVariants.{Closed, To, Out}
 use Rattle.wcet.specs.Exploring.{IsTarget, Stands, HasNumbered, IsStepOf, IsBuilt, IsExplored}
-use Rattle.wcet.specs.Numbers.{IsNumbered, IsFull, HasNumber, HasWay}
+use Rattle.wcet.specs.Numbers.{IsNumbered, HasWay}
 use Rattle.wcet.specs.Ways.{way_steps}
 use Rattle.wcet.proofs.Many.{too_many}
 

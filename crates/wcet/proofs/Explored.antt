@@ -1,13 +1,13 @@
 -- The first address alone, and the end of an exploration.
-use Rattle.std.proofs.Common.{ℕ, zero, suc, ◌≡◌, ◌<◌, ◌≤◌, List, [], ◌∷◌, Option, None, Some, length, refl, sym, ap, subst, ◌∙◌, arith}
-use Rattle.std.specs.List.{AllPairs, Contains, slice_get}
+use Rattle.std.proofs.Common.{ℕ, zero, suc, ◌≡◌, ◌≤◌, List, [], ◌∷◌, Some, length, refl, subst, arith}
+use Rattle.std.specs.List.{slice_get}
 use Rattle.std.proofs.lemmas.Option.{none-some, same_Some, slice_get_within}
 use Rattle.wc_model.specs.declared.elf_image.Image.{Image}
 use Rattle.wc_model.specs.declared.flow_facts.Fact.{Fact}
 use Rattle.wc_model.specs.declared.flow_system.SystemStep.{SystemStep}
 use Rattle.wc_model.specs.declared.machine.Cycles.{Cycles}
 use Rattle.wc_model.specs.Paths.{Reaches, here}
-use Rattle.wc_model.specs.Positions.{Position, start_of}
+use Rattle.wc_model.specs.Positions.{start_of}
 use Rattle.wcet.specs.declared.chain.code.Code.{Code}
 use Rattle.wcet.specs.Exploring.{IsExplored}
 use Rattle.wcet.specs.Numbers.{IsNew}

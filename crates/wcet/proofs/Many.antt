@@ -1,11 +1,11 @@
 -- Where no more addresses are numbered, too many positions are reached.
-use Rattle.std.proofs.Common.{ℕ, suc, ◌≡◌, ◌+◌, ◌<◌, ◌≤◌, List, [], ◌∷◌, ◌++◌, map, Option, None, Some, length, get_or, refl, sym, ap, subst, ◌∙◌, arith, nat_cmp}
-use Rattle.std.specs.List.{All, AllPairs, Contains, slice_get}
+use Rattle.std.proofs.Common.{ℕ, ◌≡◌, ◌+◌, ◌<◌, List, [], ◌∷◌, ◌++◌, map, Some, length, get_or, sym, ap, ◌∙◌, arith, nat_cmp}
+use Rattle.std.specs.List.{AllPairs, slice_get}
 use Rattle.std.specs.BTreeMap.{get}
 use Rattle.std.proofs.lemmas.List.{length_push, length-map, get_or-map}
 use Rattle.std.proofs.lemmas.List.Elements.{All-push, All-map}
 use Rattle.std.proofs.lemmas.List.Quantifiers.{all_pairs_push}
-use Rattle.std.proofs.lemmas.Option.{same_Some, slice_get-get_or, get_or_from_slice_get}
+use Rattle.std.proofs.lemmas.Option.{same_Some, slice_get-get_or}
 use Rattle.wc_model.specs.declared.elf_image.Image.{Image}
 use Rattle.wc_model.specs.declared.flow_facts.Fact.{Fact}
 use Rattle.wc_model.specs.Chain.{IsUnbuiltCode, many}

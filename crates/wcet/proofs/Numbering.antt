@@ -1,6 +1,6 @@
 -- One more address with a number.
-use Rattle.std.proofs.Common.{ℕ, ◌≡◌, ◌+◌, ◌<◌, ◌≤◌, ◌⊎◌, ⊎_elim, inl, inr, List, [], ◌∷◌, ◌++◌, Option, None, Some, length, Bool, false, refl, sym, ap, subst, ◌∙◌, arith, nat_cmp}
-use Rattle.std.specs.List.{Contains, slice_get}
+use Rattle.std.proofs.Common.{ℕ, ◌≡◌, ⊎_elim, List, [], ◌∷◌, ◌++◌, Option, None, Some, length, false, sym, ap, subst, ◌∙◌, arith, nat_cmp}
+use Rattle.std.specs.List.{slice_get}
 use Rattle.std.specs.BTreeMap.{is_at}
 use Rattle.std.proofs.lemmas.Bool.{cases_eq}
 use Rattle.std.proofs.lemmas.Grind.{common_steps}

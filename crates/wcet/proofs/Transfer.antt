@@ -1,12 +1,12 @@
 -- The numbered steps of an exploration stand for the steps of the program, and the other way round.
-use Rattle.std.proofs.Common.{ℕ, ◌≡◌, ◌+◌, ◌<◌, ◌≤◌, List, [], ◌∷◌, Option, None, Some, length, refl, sym, ap, subst, ◌∙◌, arith}
-use Rattle.std.specs.List.{AllPairs, Contains, slice_get}
+use Rattle.std.proofs.Common.{ℕ, ◌≡◌, ◌+◌, List, [], ◌∷◌, Option, None, Some, length, refl, sym, ap, subst, ◌∙◌, arith}
+use Rattle.std.specs.List.{Contains, slice_get}
 use Rattle.std.proofs.lemmas.Option.{none-some, same_Some, slice_get_within}
 use Rattle.wc_model.specs.declared.elf_image.Image.{Image}
 use Rattle.wc_model.specs.declared.flow_facts.Fact.{Fact}
 use Rattle.wc_model.specs.declared.flow_system.SystemStep.{SystemStep}
 use Rattle.wc_model.specs.declared.machine.Cycles.{Cycles}
-use Rattle.wc_model.specs.Paths.{Reaches, here, along, IsPath, step_cycles, path_cycles}
+use Rattle.wc_model.specs.Paths.{Reaches, here, along, IsPath, path_cycles}
 use Rattle.wc_model.specs.Positions.{Position, start_of}
 use Rattle.wc_model.specs.Steps.{Step, steps_of}
 use Rattle.wc_model.specs.Walks.{Reaches as Joins, here as joined, along as joins, IsWalk, walk_cost}

@@ -1,6 +1,7 @@
 ghost use Rattle.std.specs.Prelude.{◌≡◌, ℕ, List, map, None, Ok, IfOk};
 ghost use Rattle.wc_model.specs.Chain.{IsChain};
 ghost use Rattle.wc_model.specs.Words.{find_of};
+ghost use Rattle.wc_model.specs.declared.flow_facts.Fact.{Fact};
 
 use crate::chain::code::explore;
 use std::alloc::{AllocError, Global};
@@ -23,19 +24,18 @@ pub fn chain(
 {
     match find(image, name) {
         Err(fault) => Ok(Outcome::Fault(fault)),
-        Ok(entry) => chain_at(alloc, image, facts, hardware, entry),
+        Ok(entry) => chain_at(alloc, image, hardware, entry),
     }
 }
 
-// The outcome of the function at an address.
+// The outcome of the function at an address, whatever the facts: none speaks of code that is analysed.
 fn chain_at(
     alloc: Global,
     image: &Image,
-    _facts: &Facts,
     hardware: &Hardware,
     entry: Addr,
 ) -> Result<Outcome, AllocError>
-    ensures { IfOk result (λ outcome. (name : List ℕ) → find_of image.now name ≡ Ok entry → IsChain image.now (map (λ f. f.1) _facts.now) hardware.now name outcome) }
+    ensures { IfOk result (λ outcome. (facts : List Fact) (name : List ℕ) → find_of image.now name ≡ Ok entry → IsChain image.now facts hardware.now name outcome) }
 {
     let unbuilt = Outcome::Fault(Fault::Unbuilt(UnbuiltWord::Code));
     let Some(code) = explore(alloc, image, &hardware.cycles, entry)? else {

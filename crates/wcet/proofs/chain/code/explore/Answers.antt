@@ -1,4 +1,4 @@
-use Rattle.std.proofs.Common.{ℕ, ◌≡◌, ◌≤◌, Bool, true, false, List, length, sym, subst, arith}
+use Rattle.std.proofs.Common.{◌≤◌, true, false, length, subst, arith}
 use Rattle.wcet.specs.Exploring.{IsExpanded}
 use Rattle.wcet.proofs.Explored.{new_explored, all_explored}
 use Rattle.wcet.proofs.chain.code.explore.Goals as goal

@@ -1,4 +1,4 @@
-use Rattle.std.proofs.Common.{◌-◌, ◌≤◌, List, length}
+use Rattle.std.proofs.Common.{◌-◌, List}
 use Rattle.wc_model.specs.declared.flow_facts.Fact.{Fact}
 use Rattle.wcet.specs.Exploring.{IsExplored}
 use Rattle.wcet.specs.Numbers.{IsNumbered}

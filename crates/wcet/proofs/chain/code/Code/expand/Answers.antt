@@ -1,10 +1,7 @@
-use Rattle.std.proofs.Common.{ℕ, ◌≡◌, Bool, true, false, List, None, Some, Result, Ok, Err, IfOk, length, refl, sym, subst, ◌∙◌}
+use Rattle.std.proofs.Common.{◌≡◌, true, false, Some, Result, Ok, Err, IfOk, length, refl, sym, subst, ◌∙◌}
 use Rattle.std.specs.List.{slice_get}
 use Rattle.std.proofs.lemmas.Option.{slice_get_read}
-use Rattle.wc_model.specs.Chain.{IsUnbuiltInsn}
-use Rattle.wc_model.specs.Steps.{insn_at}
 use Rattle.wcet.specs.Numbers.{HasWay}
-use Rattle.wcet.specs.Ways.{AreWays}
 use Rattle.wcet.proofs.Expanded.{not_known, not_built, taken_full, expanded}
 use Rattle.wcet.proofs.chain.code.Code.expand.Goals as goal
 
