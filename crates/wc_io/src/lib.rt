@@ -12,6 +12,8 @@ mod memory_house;
 mod opened;
 mod read_ahead;
 mod script_lines;
+#[cfg(test)]
+mod script_tests;
 mod streams;
 #[cfg(test)]
 mod tests;

@@ -9,6 +9,7 @@ use std::marker::Model;
 const CHUNK: usize = 4096;
 
 /// A source of which a piece was read ahead: the bytes of `buffer` from `start` to `end`.
+#[derive(Drop)]
 pub struct ReadAhead<S: Source> {
     source: S,
     buffer: [u8; CHUNK],

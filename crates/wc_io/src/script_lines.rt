@@ -70,6 +70,7 @@ const MAX_LINES: u32 = 10_000;
 const MAX_BYTES: u64 = 50_331_648;
 
 /// The lines of a source, each without its LF and without a CR before it.
+#[derive(Drop)]
 pub struct Lines<S: Source> {
     ahead: ReadAhead<S>,
     line: LineBuffer,
