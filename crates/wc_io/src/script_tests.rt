@@ -55,7 +55,12 @@ fn lines_are_the_same_however_they_are_cut(rt: HostRuntime) -> Result<(), Fail> 
 }
 
 /// So many bytes `x` and then the text.
-fn long_script(alloc: Global, count: usize, end: &str, most: usize) -> Result<MemorySource, AllocError> {
+fn long_script(
+    alloc: Global,
+    count: usize,
+    end: &str,
+    most: usize,
+) -> Result<MemorySource, AllocError> {
     let mut source = source_of(alloc, "", most, &[])?;
     for _ in 0..count {
         source.left.push(b'x')?;
@@ -88,7 +93,12 @@ fn a_line_has_at_most_4096_bytes(rt: HostRuntime) -> Result<(), Fail> {
 
 #[test]
 fn a_script_has_at_most_10000_lines(rt: HostRuntime) -> Result<(), Fail> {
-    let table = [(10_000, "", b'.'), (10_001, "", b'!'), (10_000, "x", b'!'), (9_999, "x", b'.')];
+    let table = [
+        (10_000, "", b'.'),
+        (10_001, "", b'!'),
+        (10_000, "x", b'!'),
+        (9_999, "x", b'.'),
+    ];
     for (count, end, last) in table {
         let mut source = source_of(rt.alloc(), "", 0, &[])?;
         for _ in 0..count {
@@ -158,7 +168,11 @@ fn a_script_has_at_most_50331648_bytes(rt: HostRuntime) -> Result<(), Fail> {
             feed,
         };
         let got = results(rt.alloc(), source)?;
-        assert_eq!(rt; got.as_slice(), want.as_bytes(), "{total} bytes, LF at {feed}");
+        assert_eq!(rt;
+            got.as_slice(),
+            want.as_bytes(),
+            "{total} bytes, LF at {feed}"
+        );
     }
     Ok(())
 }
