@@ -1,5 +1,9 @@
+pub mod Ahead
 pub mod Causes
+pub mod Feeds
+pub mod Lines
 pub mod Memory
+pub mod Parts
 pub mod Reading
 pub mod Rows
 pub mod Tails
