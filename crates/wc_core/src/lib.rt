@@ -1,9 +1,12 @@
 //! The core of a workspace that sessions share: it pins, starts, keeps and answers, and writes the history.
 #![tactic(auto)]
 
+mod changes;
+mod shared;
 mod store;
 mod tickets;
 mod work;
 
+pub use shared::Core;
 pub use tickets::Ticket;
 pub use work::{Given, Job, Work};
