@@ -1,9 +1,54 @@
 -- What the calls of a core answer.
-use Rattle.std.specs.Prelude.{ℕ, Bool, true, false, Option, None, Some, ◌≡◌}
+use Rattle.std.specs.Prelude.{ℕ, ◌+◌, Bool, true, false, List, [], ◌∷◌, ◌++◌, length, Option, None, Some, Result, Ok, Err, ◌≡◌}
+use Rattle.std.specs.declared.alloc.AllocError.{AllocError}
+use Rattle.wc_model.specs.declared.entries.Entry.{Entry}
+use Rattle.wc_model.specs.declared.entries.Entry.TheVariants.{Edit as EditEntry, NoFact, Pin, List as ListEntry}
+use Rattle.wc_model.specs.declared.entries.Listing.{Listing}
 use Rattle.wc_model.specs.declared.flow_facts.Fact.{Fact}
 use Rattle.wc_model.specs.declared.flow_facts.Fact.TheVariants.{Checksum}
+use Rattle.wc_model.specs.declared.inputs.Edit.{Edit}
+use Rattle.wc_model.specs.declared.inputs.Edit.TheVariants.{Drop}
+use Rattle.wc_model.specs.Edits.{Setting, after, edits_of}
+use Rattle.wc_model.specs.History.{Opening, State, state_after, is_free, can_edit, is_live}
+use Rattle.wc_core.specs.Views.{Known}
 
 -- A checksum alone says nothing of what the program may do.
 abbrev pub is_plain_fact : Fact → Bool
 is_plain_fact (Checksum name value) = false
 is_plain_fact _ = true
+
+-- The session is one of the workspace and has no open ask.
+pub record LeavesFree (o : Opening) (history : List Entry) (session : ℕ) : Type 0 where
+  pub st : State
+  pub state : state_after o history ≡ Some st
+  pub free : is_free o st session ≡ true
+
+-- The number of accepted edits, and the inputs after all of them.
+abbrev pub edit_count : Known → ℕ
+edit_count k = length (edits_of k.history)
+
+abbrev pub inputs_now : Known → Setting
+inputs_now k = after k.opening.image (edit_count k) k.history
+
+abbrev pub adds : Known → Known → Entry → Type 0
+adds old new entry = new.history ≡ old.history ++ entry ∷ []
+
+-- An accepted edit is counted, and adds its entry.
+pub record IsAccepted (old new : Known) (session : ℕ) (edit : Edit) (count : ℕ) : Type 0 where
+  pub counted : count ≡ edit_count old + 1
+  pub allowed : can_edit edit (inputs_now old) ≡ true
+  pub entry : adds old new (EditEntry session count edit)
+
+-- A refused edit drops a fact that isn't live.
+pub record IsRefused (old new : Known) (session : ℕ) (edit : Edit) (at : ℕ) : Type 0 where
+  pub number : ℕ
+  pub drops : edit ≡ Drop number
+  pub dead : is_live number (inputs_now old) ≡ false
+  pub here : at ≡ edit_count old
+  pub entry : adds old new (NoFact session number at)
+
+pub record IsListed (old new : Known) (session : ℕ) (listing : Listing) : Type 0 where
+  pub here : listing.at ≡ edit_count old
+  pub facts : listing.facts ≡ (inputs_now old).facts
+  pub hardware : listing.hardware ≡ (inputs_now old).hardware
+  pub entry : adds old new (ListEntry session listing.at)

@@ -135,8 +135,11 @@ fn without_fact(alloc: Global, facts: &Facts, number: u64) -> Result<Facts, Allo
     ensures { IfOk result (λ fs. fs ≡ without_number number facts.now) }
 {
     let mut items = Vec::new(alloc);
+    let mut dropped = false;
     for fact in facts.items() {
-        if fact.0 != number {
+        if !dropped && fact.0 == number {
+            dropped = true;
+        } else {
             items.push(copy_numbered(fact)?)?;
         }
     }
