@@ -171,3 +171,78 @@ core_edit chain feature image hardware facts h inputs count stamp slots home roo
       within = omega (arith, grows, length-snoc h entry);
       counted = omega (arith, core.counted, length-snoc h entry)
     }
+
+-- An entry that is no edit changes neither the inputs nor the stamps.
+edits_stay : (h : List Entry) (e : Entry) → edit_of e ≡ [] → edits_of (h ++ e ∷ []) ≡ edits_of h
+edits_stay h e none = edits_of-snoc h e ∙ ap (λ l. edits_of h ++ l) none ∙ append-nil (edits_of h)
+
+pub rebuilt : {V : Type 0} (chain : Chain) (feature : Setting → List ℕ → V → Type 0) (o : Opening) (h : List Entry) (e : Entry) (inputs : Setting) (count stamp : ℕ) (slots slots' : List (Slot V)) (home home' : List ℕ) (room more : ℕ) (out' : List Run) (ask' : Option Ask)
+    → IsCore chain feature o h inputs count stamp slots home room
+    → edit_of e ≡ []
+    → Kept chain o (h ++ e ∷ []) (plain_state (edits_of (h ++ e ∷ [])) (map (row_of stamp) slots') home' out' ask')
+    → AreFeatures (feature inputs) slots'
+    → length slots' ≤ 32
+    → IsTurnOf count stamp slots' ask' home' out'
+    → length h + 1 + entries_needed ask' home' ≤ more
+    → IsCore chain feature o (h ++ e ∷ []) inputs count stamp slots' home' more
+rebuilt chain feature o h e inputs count stamp slots slots' home home' room more out' ask' core none kept features few turn within =
+    let stay : edits_of (h ++ e ∷ []) ≡ edits_of h = edits_stay h e none in
+    record {
+      ask = ask';
+      out = out';
+      begins = kept.begins;
+      state = kept.state;
+      right = kept.right;
+      inputs_are = core.inputs_are ∙ ap (λ es. all_edited 0 (bare o.image) es) (sym stay);
+      count_is = core.count_is ∙ ap length (sym stay);
+      stamp_is = core.stamp_is ∙ ap (λ es. last_touch all_parts 0 0 (bare o.image) es) (sym stay);
+      features = features;
+      few = few;
+      turn = turn;
+      within = omega (arith, within, length-snoc h e);
+      counted = omega (arith, core.counted, length-snoc h e)
+    }
+
+pub core_list : {V : Type 0} (chain : Chain) (feature : Setting → List ℕ → V → Type 0) (image : Image) (hardware : Hardware) (facts : List Fact) (h : List Entry) (inputs : Setting) (count stamp : ℕ) (slots : List (Slot V)) (home : List ℕ) (room more : ℕ)
+    → IsCore chain feature (plain_opening image hardware facts) h inputs count stamp slots home room
+    → LeavesFree (plain_opening image hardware facts) h 1
+    → length h + 1 ≤ more
+    → IsCore chain feature (plain_opening image hardware facts) (h ++ ListEntry 1 count ∷ []) inputs count stamp slots home more
+core_list chain feature image hardware facts h inputs count stamp slots home room more core leaves grows =
+    let o : Opening = plain_opening image hardware facts in
+    let free = core_free chain feature image hardware facts h inputs count stamp slots home room 1 core leaves in
+    let kept = grown chain o h (ListEntry 1 count) _ _ home home [] [] None None _ free.1 (step_list image hardware facts (edits_of h) (map (row_of stamp) slots) home count core.count_is) (sym (append-nil (edits_of h))) tt in
+    rebuilt chain feature o h (ListEntry 1 count) inputs count stamp slots slots home home room more [] None core refl kept core.features core.few (turn_free count stamp slots home free.2) (omega arith)
+
+pub core_nofact : {V : Type 0} (chain : Chain) (feature : Setting → List ℕ → V → Type 0) (image : Image) (hardware : Hardware) (facts : List Fact) (h : List Entry) (inputs : Setting) (count stamp : ℕ) (slots : List (Slot V)) (home : List ℕ) (room more number : ℕ)
+    → IsCore chain feature (plain_opening image hardware facts) h inputs count stamp slots home room
+    → LeavesFree (plain_opening image hardware facts) h 1
+    → is_live number inputs ≡ false
+    → length h + 1 ≤ more
+    → IsCore chain feature (plain_opening image hardware facts) (h ++ NoFact 1 number count ∷ []) inputs count stamp slots home more
+core_nofact chain feature image hardware facts h inputs count stamp slots home room more number core leaves dead grows =
+    let o : Opening = plain_opening image hardware facts in
+    let free = core_free chain feature image hardware facts h inputs count stamp slots home room 1 core leaves in
+    let gone = ap (is_live number) (sym core.inputs_are) ∙ dead in
+    let kept = grown chain o h (NoFact 1 number count) _ _ home home [] [] None None _ free.1 (step_nofact image hardware facts (edits_of h) (map (row_of stamp) slots) home number count core.count_is gone) (sym (append-nil (edits_of h))) tt in
+    rebuilt chain feature o h (NoFact 1 number count) inputs count stamp slots slots home home room more [] None core refl kept core.features core.few (turn_free count stamp slots home free.2) (omega arith)
+
+turn_asked : {V : Type 0} (count stamp : ℕ) (slots : List (Slot V)) (ask : Ask) (home : List ℕ) → IsOne home → ask.at ≡ count → IsTurnOf count stamp slots (Some ask) home []
+turn_asked count stamp slots ask home one here = let P : List ℕ → Type 0 = λ l. IsTurnOf count stamp slots (Some ask) l [] in subst P (sym one.1) (refl, here)
+
+abbrev pub fresh_ask : List ℕ → ℕ → Ask
+fresh_ask name at = record { name = name; at = at; kinds = []; memory = false }
+
+needed_fresh : (name : List ℕ) (at : ℕ) (home : List ℕ) → IsOne home → entries_needed (Some (fresh_ask name at)) home ≡ 3
+needed_fresh name at home one = ap (λ l. entries_needed (Some (fresh_ask name at)) l) one.1
+
+pub core_pin : {V : Type 0} (chain : Chain) (feature : Setting → List ℕ → V → Type 0) (image : Image) (hardware : Hardware) (facts : List Fact) (h : List Entry) (inputs : Setting) (count stamp : ℕ) (slots : List (Slot V)) (home : List ℕ) (room more : ℕ) (name : List ℕ)
+    → IsCore chain feature (plain_opening image hardware facts) h inputs count stamp slots home room
+    → LeavesFree (plain_opening image hardware facts) h 1
+    → length h + 4 ≤ more
+    → IsCore chain feature (plain_opening image hardware facts) (h ++ Pin 1 name count ∷ []) inputs count stamp slots home more
+core_pin chain feature image hardware facts h inputs count stamp slots home room more name core leaves grows =
+    let o : Opening = plain_opening image hardware facts in
+    let free = core_free chain feature image hardware facts h inputs count stamp slots home room 1 core leaves in
+    let kept = grown chain o h (Pin 1 name count) _ _ home home [] [] None (Some (fresh_ask name count)) _ free.1 (step_pin image hardware facts (edits_of h) (map (row_of stamp) slots) home name count core.count_is) (sym (append-nil (edits_of h))) tt in
+    rebuilt chain feature o h (Pin 1 name count) inputs count stamp slots slots home home room more [] (Some (fresh_ask name count)) core refl kept core.features core.few (turn_asked count stamp slots (fresh_ask name count) home free.2 refl) (omega (arith, needed_fresh name count home free.2))

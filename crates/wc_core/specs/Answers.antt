@@ -1,6 +1,5 @@
 -- What the calls of a core answer.
 use Rattle.std.specs.Prelude.{ℕ, ◌+◌, Bool, true, false, List, [], ◌∷◌, ◌++◌, length, Option, None, Some, Result, Ok, Err, ◌≡◌}
-use Rattle.std.specs.declared.alloc.AllocError.{AllocError}
 use Rattle.wc_model.specs.declared.entries.Entry.{Entry}
 use Rattle.wc_model.specs.declared.entries.Entry.TheVariants.{Edit as EditEntry, NoFact, Pin, List as ListEntry}
 use Rattle.wc_model.specs.declared.entries.Listing.{Listing}
@@ -10,6 +9,8 @@ use Rattle.wc_model.specs.declared.inputs.Edit.{Edit}
 use Rattle.wc_model.specs.declared.inputs.Edit.TheVariants.{Drop}
 use Rattle.wc_model.specs.Edits.{Setting, after, edits_of}
 use Rattle.wc_model.specs.History.{Opening, State, state_after, is_free, can_edit, is_live}
+use Rattle.wc_core.specs.declared.answers.Edited.{Edited}
+use Rattle.wc_core.specs.declared.answers.Edited.TheVariants.{Done, NoFact as NotLive}
 use Rattle.wc_core.specs.Views.{Known}
 
 -- A checksum alone says nothing of what the program may do.
@@ -52,3 +53,7 @@ pub record IsListed (old new : Known) (session : ℕ) (listing : Listing) : Type
   pub facts : listing.facts ≡ (inputs_now old).facts
   pub hardware : listing.hardware ≡ (inputs_now old).hardware
   pub entry : adds old new (ListEntry session listing.at)
+
+abbrev pub EditIs : Known → Known → ℕ → Edit → Edited → Type 0
+EditIs old new session edit (Done count) = IsAccepted old new session edit count
+EditIs old new session edit (NotLive at) = IsRefused old new session edit at

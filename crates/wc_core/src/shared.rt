@@ -11,14 +11,14 @@ use wc_model::{Edit, Entry, Fact, Hardware, Inputs};
 /// The shared workspace without locks: the inputs, the stored values, the works at home and the history.
 #[derive(Drop)]
 pub struct Core<W: Work> {
-    hardware: Hardware,
-    facts: Vec<Fact>,
-    inputs: Arc<Inputs>,
-    count: u64,
-    stamp: u64,
-    works: Vec<W>,
-    slots: Vec<Slot<W::Value>>,
-    history: Vec<Entry>,
+    pub(crate) hardware: Hardware,
+    pub(crate) facts: Vec<Fact>,
+    pub(crate) inputs: Arc<Inputs>,
+    pub(crate) count: u64,
+    pub(crate) stamp: u64,
+    pub(crate) works: Vec<W>,
+    pub(crate) slots: Vec<Slot<W::Value>>,
+    pub(crate) history: Vec<Entry>,
 }
 
 impl<W: Work> Model for Core<W> {
@@ -38,6 +38,7 @@ impl<W: Work> Model for Core<W> {
 }
 
 impl<W: Work> Core<W> {
+    /// All entries since the core was made, in order.
     pub fn history(&self) -> &[Entry]
         ensures { result.now ≡ self.now.history }
     {
