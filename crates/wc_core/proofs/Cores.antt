@@ -13,11 +13,11 @@ use Rattle.wc_model.specs.declared.machine.Hardware.{Hardware}
 use Rattle.wc_model.specs.declared.values.Outcome.{Outcome}
 use Rattle.wc_model.specs.Closures.{touches_any, last_touch, has_kind}
 use Rattle.wc_model.specs.Edits.{Setting, bare, all_edited, edited, edits_of, edit_of, AgreeOnAll}
-use Rattle.wc_model.specs.History.{Opening, State, Row, Run, Ask, Chain, IsRight, EachRight, state_after, step, is_free, open_ask, own_run, can_edit, is_live, bound_kind}
+use Rattle.wc_model.specs.History.{Opening, State, Row, Run, Ask, Chain, IsLegal, IsRight, EachRight, state_after, step, is_free, open_ask, own_run, can_edit, is_live, bound_kind}
 use Rattle.wc_model.proofs.Replays.{Kept, kept_snoc, kept_is_legal, edits_of-snoc, all_edited-append, last_touch-append}
 use Rattle.wc_model.proofs.Untouched.{agree_untouched}
 use Rattle.wc_core.specs.declared.store.Slot.{Slot}
-use Rattle.wc_core.specs.Answers.{LeavesFree}
+use Rattle.wc_core.specs.Answers.{LeavesFree, inputs_now}
 use Rattle.wc_core.specs.Holds.{all_parts, plain_opening, plain_state, row_of, emptied, slots_after, stamp_after, has_value, AreFeatures, IsTurnOf, IsCore, entries_needed}
 use Rattle.wc_core.specs.Views.{value_of}
 use Rattle.wc_core.proofs.Steps.{step_edit, step_nofact, step_list, step_pin, step_start, step_kept, step_memory, step_no_memory, step_reached}
@@ -144,6 +144,7 @@ pub core_edit : {V : Type 0} (chain : Chain) (feature : Setting → List ℕ →
     → length h + 1 ≤ more
     → let touched : Bool = touches_any all_parts inputs e in
       IsCore chain feature (plain_opening image hardware facts) (h ++ EditEntry 1 (count + 1) e ∷ []) (edited (count + 1) inputs e) (count + 1) (stamp_after touched (count + 1) stamp) (slots_after touched slots) home more
+        × LeavesFree (plain_opening image hardware facts) (h ++ EditEntry 1 (count + 1) e ∷ []) 1
 core_edit chain feature image hardware facts h inputs count stamp slots home room more e stable core leaves can grows =
     let o : Opening = plain_opening image hardware facts in
     let free = core_free chain feature image hardware facts h inputs count stamp slots home room 1 core leaves in
@@ -156,7 +157,7 @@ core_edit chain feature image hardware facts h inputs count stamp slots home roo
     let stepped : step o (plain_state (edits_of h) (map (row_of stamp) slots) home [] None) entry ≡ Some (plain_state (edits_of h ++ e ∷ []) (map (row_of new_stamp) (slots_after touched slots)) home [] None) =
       step_is ∙ ap (λ b. Some (plain_state (edits_of h ++ e ∷ []) (map (row_of (stamp_after b (count + 1) stamp)) (slots_after b slots)) home [] None)) (sym is_touched) in
     let kept = grown chain o h entry _ _ home home [] [] None None _ free.1 stepped refl tt in
-    record {
+    (record {
       ask = None;
       out = [];
       begins = kept.begins;
@@ -170,7 +171,7 @@ core_edit chain feature image hardware facts h inputs count stamp slots home roo
       turn = turn_free (count + 1) new_stamp (slots_after touched slots) home free.2;
       within = omega (arith, grows, length-snoc h entry);
       counted = omega (arith, core.counted, length-snoc h entry)
-    }
+    }, record { st = _; state = kept.state; free = refl })
 
 -- An entry that is no edit changes neither the inputs nor the stamps.
 edits_stay : (h : List Entry) (e : Entry) → edit_of e ≡ [] → edits_of (h ++ e ∷ []) ≡ edits_of h
@@ -208,11 +209,12 @@ pub core_list : {V : Type 0} (chain : Chain) (feature : Setting → List ℕ →
     → LeavesFree (plain_opening image hardware facts) h 1
     → length h + 1 ≤ more
     → IsCore chain feature (plain_opening image hardware facts) (h ++ ListEntry 1 count ∷ []) inputs count stamp slots home more
+        × LeavesFree (plain_opening image hardware facts) (h ++ ListEntry 1 count ∷ []) 1
 core_list chain feature image hardware facts h inputs count stamp slots home room more core leaves grows =
     let o : Opening = plain_opening image hardware facts in
     let free = core_free chain feature image hardware facts h inputs count stamp slots home room 1 core leaves in
     let kept = grown chain o h (ListEntry 1 count) _ _ home home [] [] None None _ free.1 (step_list image hardware facts (edits_of h) (map (row_of stamp) slots) home count core.count_is) (sym (append-nil (edits_of h))) tt in
-    rebuilt chain feature o h (ListEntry 1 count) inputs count stamp slots slots home home room more [] None core refl kept core.features core.few (turn_free count stamp slots home free.2) (omega arith)
+    (rebuilt chain feature o h (ListEntry 1 count) inputs count stamp slots slots home home room more [] None core refl kept core.features core.few (turn_free count stamp slots home free.2) (omega arith), record { st = _; state = kept.state; free = refl })
 
 pub core_nofact : {V : Type 0} (chain : Chain) (feature : Setting → List ℕ → V → Type 0) (image : Image) (hardware : Hardware) (facts : List Fact) (h : List Entry) (inputs : Setting) (count stamp : ℕ) (slots : List (Slot V)) (home : List ℕ) (room more number : ℕ)
     → IsCore chain feature (plain_opening image hardware facts) h inputs count stamp slots home room
@@ -220,12 +222,13 @@ pub core_nofact : {V : Type 0} (chain : Chain) (feature : Setting → List ℕ �
     → is_live number inputs ≡ false
     → length h + 1 ≤ more
     → IsCore chain feature (plain_opening image hardware facts) (h ++ NoFact 1 number count ∷ []) inputs count stamp slots home more
+        × LeavesFree (plain_opening image hardware facts) (h ++ NoFact 1 number count ∷ []) 1
 core_nofact chain feature image hardware facts h inputs count stamp slots home room more number core leaves dead grows =
     let o : Opening = plain_opening image hardware facts in
     let free = core_free chain feature image hardware facts h inputs count stamp slots home room 1 core leaves in
     let gone = ap (is_live number) (sym core.inputs_are) ∙ dead in
     let kept = grown chain o h (NoFact 1 number count) _ _ home home [] [] None None _ free.1 (step_nofact image hardware facts (edits_of h) (map (row_of stamp) slots) home number count core.count_is gone) (sym (append-nil (edits_of h))) tt in
-    rebuilt chain feature o h (NoFact 1 number count) inputs count stamp slots slots home home room more [] None core refl kept core.features core.few (turn_free count stamp slots home free.2) (omega arith)
+    (rebuilt chain feature o h (NoFact 1 number count) inputs count stamp slots slots home home room more [] None core refl kept core.features core.few (turn_free count stamp slots home free.2) (omega arith), record { st = _; state = kept.state; free = refl })
 
 turn_asked : {V : Type 0} (count stamp : ℕ) (slots : List (Slot V)) (ask : Ask) (home : List ℕ) → IsOne home → ask.at ≡ count → IsTurnOf count stamp slots (Some ask) home []
 turn_asked count stamp slots ask home one here = let P : List ℕ → Type 0 = λ l. IsTurnOf count stamp slots (Some ask) l [] in subst P (sym one.1) (refl, here)
@@ -246,3 +249,32 @@ core_pin chain feature image hardware facts h inputs count stamp slots home room
     let free = core_free chain feature image hardware facts h inputs count stamp slots home room 1 core leaves in
     let kept = grown chain o h (Pin 1 name count) _ _ home home [] [] None (Some (fresh_ask name count)) _ free.1 (step_pin image hardware facts (edits_of h) (map (row_of stamp) slots) home name count core.count_is) (sym (append-nil (edits_of h))) tt in
     rebuilt chain feature o h (Pin 1 name count) inputs count stamp slots slots home home room more [] (Some (fresh_ask name count)) core refl kept core.features core.few (turn_asked count stamp slots (fresh_ask name count) home free.2 refl) (omega (arith, needed_fresh name count home free.2))
+
+pub core_legal : {V : Type 0} (chain : Chain) (feature : Setting → List ℕ → V → Type 0) (o : Opening) (h : List Entry) (inputs : Setting) (count stamp : ℕ) (slots : List (Slot V)) (home : List ℕ) (room : ℕ)
+    → IsCore chain feature o h inputs count stamp slots home room → IsLegal chain o h
+core_legal chain feature o h inputs count stamp slots home room core =
+    kept_is_legal chain o h _ (kept_of chain feature o h inputs count stamp slots home room core)
+
+pub core_inputs : {V : Type 0} (chain : Chain) (feature : Setting → List ℕ → V → Type 0) (o : Opening) (h : List Entry) (inputs : Setting) (count stamp : ℕ) (slots : List (Slot V)) (home : List ℕ) (room : ℕ)
+    → IsCore chain feature o h inputs count stamp slots home room → inputs ≡ inputs_now (record { opening = o; history = h })
+core_inputs chain feature o h inputs count stamp slots home room core =
+    core.inputs_are ∙ ap (λ es. all_edited 0 (bare o.image) es) (sym (take-length (edits_of h)))
+
+pub core_room : {V : Type 0} (chain : Chain) (feature : Setting → List ℕ → V → Type 0) (o : Opening) (h : List Entry) (inputs : Setting) (count stamp : ℕ) (slots : List (Slot V)) (home : List ℕ) (room more : ℕ)
+    → IsCore chain feature o h inputs count stamp slots home room → room ≤ more → IsCore chain feature o h inputs count stamp slots home more
+core_room chain feature o h inputs count stamp slots home room more core grows =
+    record {
+      ask = core.ask;
+      out = core.out;
+      begins = core.begins;
+      state = core.state;
+      right = core.right;
+      inputs_are = core.inputs_are;
+      count_is = core.count_is;
+      stamp_is = core.stamp_is;
+      features = core.features;
+      few = core.few;
+      turn = core.turn;
+      within = omega (arith, core.within);
+      counted = core.counted
+    }
