@@ -6,12 +6,14 @@ use Rattle.wc_model.specs.declared.entries.Entry.TheVariants.{Edit as EditEntry,
 use Rattle.wc_model.specs.declared.flow_facts.Fact.{Fact}
 use Rattle.wc_model.specs.declared.inputs.Edit.{Edit}
 use Rattle.wc_model.specs.declared.machine.Hardware.{Hardware}
-use Rattle.wc_model.specs.Closures.{touches_any}
-use Rattle.wc_model.specs.Edits.{Setting, edited}
+use Rattle.wc_model.specs.declared.kinds.Describe.{Describe}
+use Rattle.wc_model.specs.Closures.{touches_any, closure}
+use Rattle.wc_model.specs.Edits.{Setting, edited, AgreeOnAll}
 use Rattle.wc_model.specs.History.{Opening, Chain, IsLegal, can_edit, is_live}
+use Rattle.wc_model.proofs.Untouched.{same_image}
 use Rattle.wc_core.specs.declared.store.Slot.{Slot}
 use Rattle.wc_core.specs.Answers.{LeavesFree, inputs_now}
-use Rattle.wc_core.specs.Holds.{all_parts, plain_opening, slots_after, stamp_after, IsCore}
+use Rattle.wc_core.specs.Holds.{all_parts, bound_alone, plain_opening, slots_after, stamp_after, IsCore}
 use Rattle.wc_core.specs.Views.{Known}
 use Rattle.wc_core.proofs.Cores.{IsStable, core_free, core_edit, core_list, core_nofact, core_legal, core_inputs}
 
@@ -74,3 +76,43 @@ goes_edit chain feature image hardware facts h inputs count stamp slots home roo
     let L : ℕ → Type 0 = λ s. LeavesFree o h s in
     let G : ℕ → Type 0 = λ s. Goes chain feature o (h ++ EditEntry s (count + 1) e ∷ []) (edited (count + 1) inputs e) (count + 1) (stamp_after touched (count + 1) stamp) (slots_after touched slots) home more s in
     subst G (sym one) (goes chain feature o _ _ _ _ _ home more (core_edit chain feature image hardware facts h inputs count stamp slots home room more e stable core (subst L one (subst P (sym view) free)) allowed grows))
+
+-- The same with what the code made: the new inputs, the entries, the stamp and the slots.
+pub goes_accept : {V : Type 0} (chain : Chain) (feature : Setting → List ℕ → V → Type 0) (image : Image) (hardware : Hardware) (facts : List Fact) (h : List Entry) (inputs : Setting) (count stamp : ℕ) (slots : List (Slot V)) (home : List ℕ) (room more session : ℕ) (e : Edit) (k : Known)
+    (new : Setting) (entries : List Entry) (touched : Bool) (later : ℕ) (left : List (Slot V))
+    → IsStable feature
+    → record { opening = plain_opening image hardware facts; history = h } ≡ k
+    → IsCore chain feature (plain_opening image hardware facts) h inputs count stamp slots home room
+    → LeavesFree k.opening k.history session
+    → can_edit e (inputs_now k) ≡ true
+    → length h + 1 ≤ more
+    → image ≡ inputs.image
+    → new ≡ edited (count + 1) inputs e
+    → entries ≡ h ++ EditEntry session (count + 1) e ∷ []
+    → touched ≡ touches_any all_parts inputs e
+    → later ≡ stamp_after touched (count + 1) stamp
+    → left ≡ slots_after touched slots
+    → Goes chain feature (plain_opening new.image hardware facts) entries new (count + 1) later left home more session
+goes_accept {V} chain feature image hardware facts h inputs count stamp slots home room more session e k new entries touched later left stable view core free can grows own new_is entries_are touched_is later_is left_are =
+    let base = goes_edit chain feature image hardware facts h inputs count stamp slots home room more session e k stable view core free can grows in
+    let after : List Entry = h ++ EditEntry session (count + 1) e ∷ [] in
+    let s : Setting = edited (count + 1) inputs e in
+    let T : Bool → Type 0 = λ b. Goes chain feature (plain_opening image hardware facts) after s (count + 1) (stamp_after b (count + 1) stamp) (slots_after b slots) home more session in
+    let one = subst T (sym touched_is) base in
+    let S : ℕ → Type 0 = λ n. Goes chain feature (plain_opening image hardware facts) after s (count + 1) n (slots_after touched slots) home more session in
+    let two = subst S (sym later_is) one in
+    let L : List (Slot V) → Type 0 = λ l. Goes chain feature (plain_opening image hardware facts) after s (count + 1) later l home more session in
+    let three = subst L (sym left_are) two in
+    let E : List Entry → Type 0 = λ l. Goes chain feature (plain_opening image hardware facts) l s (count + 1) later left home more session in
+    let four = subst E (sym entries_are) three in
+    let I : Image → Type 0 = λ i. Goes chain feature (plain_opening i hardware facts) entries s (count + 1) later left home more session in
+    let five = subst I (own ∙ same_image (count + 1) inputs e) four in
+    let N : Setting → Type 0 = λ n. Goes chain feature (plain_opening n.image hardware facts) entries n (count + 1) later left home more session in
+    subst N (sym new_is) five
+
+-- The law of works, where there is the one description.
+pub stable_alone : {V : Type 0} (feature : ℕ → Setting → List ℕ → V → Type 0) (kinds : List Describe) → kinds ≡ bound_alone ∷ []
+    → ((k : ℕ) (a b : Setting) (name : List ℕ) (v : V) → AgreeOnAll a b (closure kinds k) → feature k a name v → feature k b name v)
+    → IsStable (feature 11)
+stable_alone feature kinds alone law =
+    λ a b name v agree f. let P : List Describe → Type 0 = λ ds. AgreeOnAll a b (closure ds 11) in law 11 a b name v (subst P (sym alone) agree) f

@@ -2,6 +2,7 @@
 #![tactic(auto)]
 
 mod answers;
+mod asks;
 mod calls;
 mod changes;
 mod shared;
@@ -11,5 +12,5 @@ mod work;
 
 pub use answers::Edited;
 pub use shared::Core;
-pub use tickets::Ticket;
+pub use tickets::{Flight, Landed, Next, Ticket};
 pub use work::{Given, Job, Work};

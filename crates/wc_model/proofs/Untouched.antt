@@ -80,7 +80,7 @@ or_right : (a b : Bool) → (a || b) ≡ false → b ≡ false
 or_right false b p = p
 or_right true b p = cc
 
-same_image : (n : ℕ) (s : Setting) (e : Edit) → s.image ≡ (edited n s e).image
+pub same_image : (n : ℕ) (s : Setting) (e : Edit) → s.image ≡ (edited n s e).image
 same_image n s (Add fact) = refl
 same_image n s (Drop number) = refl
 same_image n s (Timing hardware) = refl
