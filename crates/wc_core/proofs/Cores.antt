@@ -12,7 +12,7 @@ use Rattle.wc_model.specs.declared.inputs.Edit.{Edit}
 use Rattle.wc_model.specs.declared.machine.Hardware.{Hardware}
 use Rattle.wc_model.specs.declared.values.Outcome.{Outcome}
 use Rattle.wc_model.specs.Closures.{touches_any, last_touch, has_kind}
-use Rattle.wc_model.specs.Edits.{Setting, bare, all_edited, edited, edits_of, edit_of, AgreeOnAll}
+use Rattle.wc_model.specs.Edits.{Setting, bare, all_edited, edited, edits_of, edit_of, after_edits, AgreeOnAll}
 use Rattle.wc_model.specs.History.{Opening, State, Row, Run, Ask, Chain, IsLegal, IsRight, EachRight, state_after, step, is_free, open_ask, own_run, can_edit, is_live, bound_kind}
 use Rattle.wc_model.proofs.Replays.{Kept, kept_snoc, kept_is_legal, edits_of-snoc, all_edited-append, last_touch-append}
 use Rattle.wc_model.proofs.Untouched.{agree_untouched}
@@ -244,11 +244,12 @@ pub core_pin : {V : Type 0} (chain : Chain) (feature : Setting → List ℕ → 
     → LeavesFree (plain_opening image hardware facts) h 1
     → length h + 4 ≤ more
     → IsCore chain feature (plain_opening image hardware facts) (h ++ Pin 1 name count ∷ []) inputs count stamp slots home more
+        × (state_after (plain_opening image hardware facts) (h ++ Pin 1 name count ∷ []) ≡ Some (plain_state (edits_of (h ++ Pin 1 name count ∷ [])) (map (row_of stamp) slots) home [] (Some (fresh_ask name count))))
 core_pin chain feature image hardware facts h inputs count stamp slots home room more name core leaves grows =
     let o : Opening = plain_opening image hardware facts in
     let free = core_free chain feature image hardware facts h inputs count stamp slots home room 1 core leaves in
     let kept = grown chain o h (Pin 1 name count) _ _ home home [] [] None (Some (fresh_ask name count)) _ free.1 (step_pin image hardware facts (edits_of h) (map (row_of stamp) slots) home name count core.count_is) (sym (append-nil (edits_of h))) tt in
-    rebuilt chain feature o h (Pin 1 name count) inputs count stamp slots slots home home room more [] (Some (fresh_ask name count)) core refl kept core.features core.few (turn_asked count stamp slots (fresh_ask name count) home free.2 refl) (omega (arith, needed_fresh name count home free.2))
+    (rebuilt chain feature o h (Pin 1 name count) inputs count stamp slots slots home home room more [] (Some (fresh_ask name count)) core refl kept core.features core.few (turn_asked count stamp slots (fresh_ask name count) home free.2 refl) (omega (arith, needed_fresh name count home free.2)), kept.state)
 
 pub core_legal : {V : Type 0} (chain : Chain) (feature : Setting → List ℕ → V → Type 0) (o : Opening) (h : List Entry) (inputs : Setting) (count stamp : ℕ) (slots : List (Slot V)) (home : List ℕ) (room : ℕ)
     → IsCore chain feature o h inputs count stamp slots home room → IsLegal chain o h
@@ -278,3 +279,9 @@ core_room chain feature o h inputs count stamp slots home room more core grows =
       within = omega (arith, core.within);
       counted = core.counted
     }
+
+-- The inputs at the current count.
+pub core_inputs_at : {V : Type 0} (chain : Chain) (feature : Setting → List ℕ → V → Type 0) (o : Opening) (h : List Entry) (inputs : Setting) (count stamp : ℕ) (slots : List (Slot V)) (home : List ℕ) (room : ℕ)
+    → IsCore chain feature o h inputs count stamp slots home room → inputs ≡ after_edits o.image count (edits_of h)
+core_inputs_at chain feature o h inputs count stamp slots home room core =
+    core.inputs_are ∙ ap (λ es. all_edited 0 (bare o.image) es) (sym (take-length (edits_of h))) ∙ ap (λ n. after_edits o.image n (edits_of h)) (sym core.count_is)
