@@ -18,6 +18,7 @@ use Rattle.wc_model.proofs.Replays.{Kept, kept_snoc, kept_is_legal, edits_of-sno
 use Rattle.wc_model.proofs.Untouched.{agree_untouched}
 use Rattle.wc_core.specs.declared.store.Slot.{Slot}
 use Rattle.wc_core.specs.Answers.{LeavesFree, inputs_now}
+use Rattle.wc_core.specs.Features.{Each}
 use Rattle.wc_core.specs.Holds.{all_parts, plain_opening, plain_state, row_of, emptied, slots_after, stamp_after, has_value, AreFeatures, IsTurnOf, IsCore, entries_needed}
 use Rattle.wc_core.specs.Views.{value_of}
 use Rattle.wc_core.proofs.Steps.{step_edit, step_nofact, step_list, step_pin, step_start, step_kept, step_memory, step_no_memory, step_reached}
@@ -80,6 +81,14 @@ core_free chain feature image hardware facts h inputs count stamp slots home roo
     let none : is_none core.ask ≡ true = ap (λ s. is_free o st s) (sym one) ∙ free in
     let rest = free_case chain o h count stamp slots (map (row_of stamp) slots) core.ask home core.out none core.turn (kept_of chain feature o h inputs count stamp slots home room core) in
     (one, rest.0, rest.1)
+
+pub ran_more : (n m : ℕ) (home : List ℕ) → n ≤ m → Each (λ (runs : ℕ). runs ≤ n) home → Each (λ (runs : ℕ). runs ≤ m) home
+ran_more n m [] more each = tt
+ran_more n m (r ∷ rs) more each = (omega (arith, each.0), ran_more n m rs more each.1)
+
+pub flies_more : (n m : ℕ) (out : List Run) → n ≤ m → Each (λ (run : Run). run.runs ≤ n) out → Each (λ (run : Run). run.runs ≤ m) out
+flies_more n m [] more each = tt
+flies_more n m (r ∷ rs) more each = (omega (arith, each.0), flies_more n m rs more each.1)
 
 length-snoc : (h : List Entry) (e : Entry) → length (h ++ e ∷ []) ≡ length h + 1
 length-snoc h e = length-append h (e ∷ [])
@@ -170,7 +179,8 @@ core_edit chain feature image hardware facts h inputs count stamp slots home roo
       few = rw (length-slots_after touched slots) core.few;
       turn = turn_free (count + 1) new_stamp (slots_after touched slots) home free.2;
       within = omega (arith, grows, length-snoc h entry);
-      counted = omega (arith, core.counted, length-snoc h entry)
+      counted = omega (arith, core.counted, length-snoc h entry);
+      ran = (ran_more (length h) _ home (omega (arith, length-snoc h entry)) core.ran.0, tt)
     }, record { st = _; state = kept.state; free = refl })
 
 -- An entry that is no edit changes neither the inputs nor the stamps.
@@ -185,8 +195,10 @@ pub rebuilt : {V : Type 0} (chain : Chain) (feature : Setting → List ℕ → V
     → length slots' ≤ 32
     → IsTurnOf count stamp slots' ask' home' out'
     → length h + 1 + entries_needed ask' home' ≤ more
+    → Each (λ (runs : ℕ). runs ≤ length h + 1) home'
+    → Each (λ (run : Run). run.runs ≤ length h + 1) out'
     → IsCore chain feature o (h ++ e ∷ []) inputs count stamp slots' home' more
-rebuilt chain feature o h e inputs count stamp slots slots' home home' room more out' ask' core none kept features few turn within =
+rebuilt chain feature o h e inputs count stamp slots slots' home home' room more out' ask' core none kept features few turn within ran flies =
     let stay : edits_of (h ++ e ∷ []) ≡ edits_of h = edits_stay h e none in
     record {
       ask = ask';
@@ -201,7 +213,8 @@ rebuilt chain feature o h e inputs count stamp slots slots' home home' room more
       few = few;
       turn = turn;
       within = omega (arith, within, length-snoc h e);
-      counted = omega (arith, core.counted, length-snoc h e)
+      counted = omega (arith, core.counted, length-snoc h e);
+      ran = (ran_more (length h + 1) _ home' (omega (arith, length-snoc h e)) ran, flies_more (length h + 1) _ out' (omega (arith, length-snoc h e)) flies)
     }
 
 pub core_list : {V : Type 0} (chain : Chain) (feature : Setting → List ℕ → V → Type 0) (image : Image) (hardware : Hardware) (facts : List Fact) (h : List Entry) (inputs : Setting) (count stamp : ℕ) (slots : List (Slot V)) (home : List ℕ) (room more : ℕ)
@@ -214,7 +227,7 @@ core_list chain feature image hardware facts h inputs count stamp slots home roo
     let o : Opening = plain_opening image hardware facts in
     let free = core_free chain feature image hardware facts h inputs count stamp slots home room 1 core leaves in
     let kept = grown chain o h (ListEntry 1 count) _ _ home home [] [] None None _ free.1 (step_list image hardware facts (edits_of h) (map (row_of stamp) slots) home count core.count_is) (sym (append-nil (edits_of h))) tt in
-    (rebuilt chain feature o h (ListEntry 1 count) inputs count stamp slots slots home home room more [] None core refl kept core.features core.few (turn_free count stamp slots home free.2) (omega arith), record { st = _; state = kept.state; free = refl })
+    (rebuilt chain feature o h (ListEntry 1 count) inputs count stamp slots slots home home room more [] None core refl kept core.features core.few (turn_free count stamp slots home free.2) (omega arith) (ran_more (length h) _ home (omega arith) core.ran.0) tt, record { st = _; state = kept.state; free = refl })
 
 pub core_nofact : {V : Type 0} (chain : Chain) (feature : Setting → List ℕ → V → Type 0) (image : Image) (hardware : Hardware) (facts : List Fact) (h : List Entry) (inputs : Setting) (count stamp : ℕ) (slots : List (Slot V)) (home : List ℕ) (room more number : ℕ)
     → IsCore chain feature (plain_opening image hardware facts) h inputs count stamp slots home room
@@ -228,7 +241,7 @@ core_nofact chain feature image hardware facts h inputs count stamp slots home r
     let free = core_free chain feature image hardware facts h inputs count stamp slots home room 1 core leaves in
     let gone = ap (is_live number) (sym core.inputs_are) ∙ dead in
     let kept = grown chain o h (NoFact 1 number count) _ _ home home [] [] None None _ free.1 (step_nofact image hardware facts (edits_of h) (map (row_of stamp) slots) home number count core.count_is gone) (sym (append-nil (edits_of h))) tt in
-    (rebuilt chain feature o h (NoFact 1 number count) inputs count stamp slots slots home home room more [] None core refl kept core.features core.few (turn_free count stamp slots home free.2) (omega arith), record { st = _; state = kept.state; free = refl })
+    (rebuilt chain feature o h (NoFact 1 number count) inputs count stamp slots slots home home room more [] None core refl kept core.features core.few (turn_free count stamp slots home free.2) (omega arith) (ran_more (length h) _ home (omega arith) core.ran.0) tt, record { st = _; state = kept.state; free = refl })
 
 turn_asked : {V : Type 0} (count stamp : ℕ) (slots : List (Slot V)) (ask : Ask) (home : List ℕ) → IsOne home → ask.at ≡ count → IsTurnOf count stamp slots (Some ask) home []
 turn_asked count stamp slots ask home one here = let P : List ℕ → Type 0 = λ l. IsTurnOf count stamp slots (Some ask) l [] in subst P (sym one.1) (refl, here)
@@ -249,7 +262,7 @@ core_pin chain feature image hardware facts h inputs count stamp slots home room
     let o : Opening = plain_opening image hardware facts in
     let free = core_free chain feature image hardware facts h inputs count stamp slots home room 1 core leaves in
     let kept = grown chain o h (Pin 1 name count) _ _ home home [] [] None (Some (fresh_ask name count)) _ free.1 (step_pin image hardware facts (edits_of h) (map (row_of stamp) slots) home name count core.count_is) (sym (append-nil (edits_of h))) tt in
-    (rebuilt chain feature o h (Pin 1 name count) inputs count stamp slots slots home home room more [] (Some (fresh_ask name count)) core refl kept core.features core.few (turn_asked count stamp slots (fresh_ask name count) home free.2 refl) (omega (arith, needed_fresh name count home free.2)), kept.state)
+    (rebuilt chain feature o h (Pin 1 name count) inputs count stamp slots slots home home room more [] (Some (fresh_ask name count)) core refl kept core.features core.few (turn_asked count stamp slots (fresh_ask name count) home free.2 refl) (omega (arith, needed_fresh name count home free.2)) (ran_more (length h) _ home (omega arith) core.ran.0) tt, kept.state)
 
 pub core_legal : {V : Type 0} (chain : Chain) (feature : Setting → List ℕ → V → Type 0) (o : Opening) (h : List Entry) (inputs : Setting) (count stamp : ℕ) (slots : List (Slot V)) (home : List ℕ) (room : ℕ)
     → IsCore chain feature o h inputs count stamp slots home room → IsLegal chain o h
@@ -277,7 +290,8 @@ core_room chain feature o h inputs count stamp slots home room more core grows =
       few = core.few;
       turn = core.turn;
       within = omega (arith, core.within);
-      counted = core.counted
+      counted = core.counted;
+      ran = core.ran
     }
 
 -- The inputs at the current count.

@@ -14,7 +14,8 @@ use Rattle.wc_model.specs.Closures.{has_kind, last_touch}
 use Rattle.wc_model.specs.Edits.{Setting, bare, all_edited, edits_of}
 use Rattle.wc_model.specs.History.{Opening, State, Row, Run, Ask, Chain, EachRight, state_after, opened, opening_entries, bound_kind, same_name, with_room}
 use Rattle.wc_core.specs.declared.store.Slot.{Slot}
-use Rattle.wc_core.specs.Views.{value_of}
+use Rattle.wc_core.specs.Features.{Each}
+use Rattle.wc_core.specs.Views.{KnownTicket, value_of}
 
 abbrev pub all_parts : List Part
 all_parts = Steer ∷ Loops ∷ Limits ∷ Cache ∷ Cycles ∷ []
@@ -67,6 +68,19 @@ abbrev pub with_value : {V : Type 0} → List ℕ → Arc V Global → List (Slo
 with_value name value slots =
     if has_slot name slots then filled name value slots else with_room slots ++ record { name = name; value = Some value } ∷ []
 
+-- The value that is stored for a name.
+abbrev pub first_of : {V : Type 0} → Option V → Option V → Option V
+first_of None rest = rest
+first_of (Some v) rest = Some v
+
+abbrev pub value_at : {V : Type 0} → List ℕ → List (Slot V) → Option V
+value_at name [] = None
+value_at name (slot ∷ slots) = if same_name slot.name name then first_of (value_of slot.value) (value_at name slots) else value_at name slots
+
+-- Whether an ask can answer: a run of it found no memory, it has the bound, or the bound is stored.
+abbrev pub is_reached : {V : Type 0} → KnownTicket V → List (Slot V) → Bool
+is_reached t slots = t.memory || (has_kind bound_kind (map (λ h. h.0) t.had) || has_value t.name slots)
+
 abbrev pub AreFeatures : {V : Type 0} → (List ℕ → V → Type 0) → List (Slot V) → Type 0
 AreFeatures feature [] = Unit {0}
 AreFeatures feature (slot ∷ slots) = IfSome (value_of slot.value) (feature slot.name) × AreFeatures feature slots
@@ -100,3 +114,4 @@ pub record IsCore {V : Type 0} (chain : Chain) (feature : Setting → List ℕ �
   pub turn : IsTurnOf count stamp slots ask home out
   pub within : length history + entries_needed ask home ≤ room
   pub counted : count ≤ length history
+  pub ran : Each (λ (runs : ℕ). runs ≤ length history) home × Each (λ (run : Run). run.runs ≤ length history) out
