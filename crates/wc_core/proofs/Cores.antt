@@ -23,7 +23,7 @@ use Rattle.wc_core.specs.Holds.{all_parts, plain_opening, plain_state, row_of, e
 use Rattle.wc_core.specs.Views.{value_of}
 use Rattle.wc_core.proofs.Steps.{step_edit, step_nofact, step_list, step_pin, step_start, step_kept, step_memory, step_no_memory, step_reached}
 
-some_same : {A : Type 0} (a b : A) → Some a ≡ Some b → a ≡ b
+pub some_same : {A : Type 0} (a b : A) → Some a ≡ Some b → a ≡ b
 some_same a b p = cc
 
 pub grown : (chain : Chain) (o : Opening) (h : List Entry) (e : Entry) (rows rows' : List Row) (home home' : List ℕ) (out out' : List Run) (ask ask' : Option Ask) (edits : List Edit)
@@ -62,7 +62,7 @@ session_one s b p =
     let both = and_left (nat_le 1 s && nat_le s 1) b p in
     omega (arith, leb-true 1 s (and_left (nat_le 1 s) (nat_le s 1) both), leb-true s 1 (and_right (nat_le 1 s) (nat_le s 1) both))
 
-kept_of : {V : Type 0} (chain : Chain) (feature : Setting → List ℕ → V → Type 0) (o : Opening) (h : List Entry) (inputs : Setting) (count stamp : ℕ) (slots : List (Slot V)) (home : List ℕ) (room : ℕ)
+pub kept_of : {V : Type 0} (chain : Chain) (feature : Setting → List ℕ → V → Type 0) (o : Opening) (h : List Entry) (inputs : Setting) (count stamp : ℕ) (slots : List (Slot V)) (home : List ℕ) (room : ℕ)
     (core : IsCore chain feature o h inputs count stamp slots home room)
     → Kept chain o h (plain_state (edits_of h) (map (row_of stamp) slots) home core.out core.ask)
 kept_of chain feature o h inputs count stamp slots home room core =
@@ -142,7 +142,7 @@ length-slots_after true [] = refl
 length-slots_after true (slot ∷ slots) = ap (λ n. suc n) (length-slots_after true slots)
 length-slots_after false slots = refl
 
-turn_free : {V : Type 0} (count stamp : ℕ) (slots : List (Slot V)) (home : List ℕ) → IsOne home → IsTurnOf count stamp slots None home []
+pub turn_free : {V : Type 0} (count stamp : ℕ) (slots : List (Slot V)) (home : List ℕ) → IsOne home → IsTurnOf count stamp slots None home []
 turn_free count stamp slots home one = let P : List ℕ → Type 0 = λ l. IsTurnOf count stamp slots None l [] in subst P (sym one.1) refl
 
 pub core_edit : {V : Type 0} (chain : Chain) (feature : Setting → List ℕ → V → Type 0) (image : Image) (hardware : Hardware) (facts : List Fact) (h : List Entry) (inputs : Setting) (count stamp : ℕ) (slots : List (Slot V)) (home : List ℕ) (room more : ℕ) (e : Edit)
@@ -299,3 +299,9 @@ pub core_inputs_at : {V : Type 0} (chain : Chain) (feature : Setting → List �
     → IsCore chain feature o h inputs count stamp slots home room → inputs ≡ after_edits o.image count (edits_of h)
 core_inputs_at chain feature o h inputs count stamp slots home room core =
     core.inputs_are ∙ ap (λ es. all_edited 0 (bare o.image) es) (sym (take-length (edits_of h))) ∙ ap (λ n. after_edits o.image n (edits_of h)) (sym core.count_is)
+
+-- The stamp at the current count.
+pub core_stamp_at : {V : Type 0} (chain : Chain) (feature : Setting → List ℕ → V → Type 0) (o : Opening) (h : List Entry) (inputs : Setting) (count stamp : ℕ) (slots : List (Slot V)) (home : List ℕ) (room : ℕ)
+    → IsCore chain feature o h inputs count stamp slots home room → stamp ≡ last_touch all_parts 0 0 (bare o.image) (take count (edits_of h))
+core_stamp_at chain feature o h inputs count stamp slots home room core =
+    core.stamp_is ∙ ap (λ es. last_touch all_parts 0 0 (bare o.image) es) (sym (take-length (edits_of h))) ∙ ap (λ n. last_touch all_parts 0 0 (bare o.image) (take n (edits_of h))) (sym core.count_is)
