@@ -18,7 +18,7 @@ use Rattle.wc_model.specs.History.{Opening, State, Row, Run, Ask, Chain, IsLegal
 use Rattle.wc_model.proofs.Replays.{Kept}
 use Rattle.wc_core.specs.declared.store.Slot.{Slot}
 use Rattle.wc_core.specs.Features.{Each}
-use Rattle.wc_core.specs.Fits.{FitsTicket, FitsLanded, run_of}
+use Rattle.wc_core.specs.Fits.{FitsTicket, FitsLanded, run_of, names_needed}
 use Rattle.wc_core.specs.Holds.{all_parts, plain_opening, plain_state, row_of, has_value, has_slot, filled, with_value, AreFeatures, IsTurnOf, IsCore, entries_needed}
 use Rattle.wc_core.specs.Views.{KnownTicket, KnownLanded, ask_of, value_of}
 use Rattle.wc_core.proofs.Cores.{grown, rebuilt, kept_of, core_legal, core_inputs_at, ran_more, some_same}
@@ -100,3 +100,153 @@ core_flown chain feature image hardware facts h inputs count stamp slots home ro
       within = rest.7;
       ran = rest.8
     }
+
+pub record Gives {V : Type 0} (chain : Chain) (feature : ℕ → Setting → List ℕ → V → Type 0) (o : Opening) (h : List Entry) (inputs : Setting) (count stamp : ℕ) (slots : List (Slot V)) (home : List ℕ) (room : ℕ) (t : KnownTicket V) : Type 0 where
+  pub core : IsCore chain (feature 11) o h inputs count stamp slots home room
+  pub legal : IsLegal chain o h
+  pub fits : FitsTicket feature o h t
+
+abbrev pub lost_ticket : {V : Type 0} → KnownTicket V → ℕ → ℕ → KnownTicket V
+lost_ticket t session spare = record t { session = session; memory = true; spare = spare }
+
+pub core_lost : {V : Type 0} (chain : Chain) (feature : ℕ → Setting → List ℕ → V → Type 0) (image : Image) (hardware : Hardware) (facts : List Fact) (h : List Entry) (inputs : Setting) (count stamp : ℕ) (slots : List (Slot V)) (home : List ℕ) (room : ℕ) (l : KnownLanded V) (spare : ℕ)
+    → IsCore chain (feature 11) (plain_opening image hardware facts) h inputs count stamp slots home room
+    → (fits : FitsLanded feature (plain_opening image hardware facts) h l)
+    → 1 ≤ spare
+    → Gives chain feature (plain_opening image hardware facts) (h ++ Finish l.ticket.session l.kind l.ticket.name l.stamp Memory ∷ []) inputs count stamp slots (l.runs ∷ []) room (lost_ticket l.ticket l.ticket.session spare)
+core_lost chain feature image hardware facts h inputs count stamp slots home room l spare core fits names =
+    let o : Opening = plain_opening image hardware facts in
+    let t : KnownTicket _ = l.ticket in
+    let flown = core_flown chain feature image hardware facts h inputs count stamp slots home room l core fits in
+    let run_is : run_of t l.kind l.stamp fits.runs ≡ plain_run t.name stamp fits.runs = flown.run_is in
+    let entry : Entry = Finish 1 bound_kind t.name stamp Memory in
+    let kept = grown chain o h entry _ _ [] ((fits.runs + 1) ∷ []) _ [] (Some (ask_of t)) (Some (ask_of (lost_ticket t 1 spare))) _ flown.kept
+      (step_memory image hardware facts (edits_of h) stamp fits.runs (map (row_of stamp) slots) (ask_of t)) (sym (append-nil (edits_of h))) tt in
+    let next = rebuilt chain (feature 11) o h entry inputs count stamp slots slots home ((fits.runs + 1) ∷ []) room room [] (Some (ask_of (lost_ticket t 1 spare))) core refl kept core.features core.few
+      (refl, flown.here) (omega (arith, flown.within)) (omega (arith, flown.ran), tt) tt in
+    let given : Gives chain feature o (h ++ entry ∷ []) inputs count stamp slots ((fits.runs + 1) ∷ []) room (lost_ticket t 1 spare) = record {
+      core = next;
+      legal = core_legal chain (feature 11) o _ inputs count stamp slots _ room next;
+      fits = record {
+        st = _;
+        state = kept.state;
+        is_open = record {
+          ask = refl;
+          inputs = flown.inputs_are ∙ core_inputs_at chain (feature 11) o _ inputs count stamp slots _ room next ∙ ap (λ n. after_edits image n (edits_of (h ++ entry ∷ []))) (sym flown.here);
+          features = fits.is_open.features
+        };
+        rests = refl;
+        room = names
+      }
+    } in
+    let S : ℕ → Type 0 = λ s. Gives chain feature o (h ++ Finish s bound_kind t.name stamp Memory ∷ []) inputs count stamp slots ((fits.runs + 1) ∷ []) room (lost_ticket t s spare) in
+    let K : ℕ → Type 0 = λ k. Gives chain feature o (h ++ Finish t.session k t.name stamp Memory ∷ []) inputs count stamp slots ((fits.runs + 1) ∷ []) room (lost_ticket t t.session spare) in
+    let T : ℕ → Type 0 = λ n. Gives chain feature o (h ++ Finish t.session l.kind t.name n Memory ∷ []) inputs count stamp slots ((fits.runs + 1) ∷ []) room (lost_ticket t t.session spare) in
+    let R : ℕ → Type 0 = λ n. Gives chain feature o (h ++ Finish t.session l.kind t.name l.stamp Memory ∷ []) inputs count stamp slots (n ∷ []) room (lost_ticket t t.session spare) in
+    subst R (sym fits.ran) (subst T (ap (λ (r : Run). r.stamp) (sym run_is)) (subst K (ap (λ (r : Run). r.kind) (sym run_is)) (subst S (sym flown.one) given)))
+
+-- The store with a value more.
+
+filled_feature : {V : Type 0} (P : List ℕ → V → Type 0) (name : List ℕ) (value : Arc V Global) (slot : Slot V) (slots : List (Slot V)) (same : Bool) → same_name slot.name name ≡ same
+    → P name value.value → AreFeatures P (slot ∷ slots) → AreFeatures P (filled name value slots)
+    → AreFeatures P (if same then record slot { value = Some value } ∷ slots else slot ∷ filled name value slots)
+filled_feature P name value slot slots true is this all rest =
+    let Q : List ℕ → Type 0 = λ n. P n value.value in (subst Q (sym (same_text slot.name name (sym is))) this, all.1)
+filled_feature P name value slot slots false is this all rest = (all.0, rest)
+
+filled_features : {V : Type 0} (P : List ℕ → V → Type 0) (name : List ℕ) (value : Arc V Global) (slots : List (Slot V)) → P name value.value → AreFeatures P slots → AreFeatures P (filled name value slots)
+filled_features P name value [] this all = tt
+filled_features P name value (slot ∷ slots) this all =
+    filled_feature P name value slot slots (same_name slot.name name) refl this all (filled_features P name value slots this all.1)
+
+features-snoc : {V : Type 0} (P : List ℕ → V → Type 0) (slots : List (Slot V)) (slot : Slot V) → AreFeatures P slots → IfSome (value_of slot.value) (P slot.name) → AreFeatures P (slots ++ slot ∷ [])
+features-snoc P [] slot all this = (this, tt)
+features-snoc P (s ∷ slots) slot all this = (all.0, features-snoc P slots slot all.1 this)
+
+room_features : {V : Type 0} (P : List ℕ → V → Type 0) (slots : List (Slot V)) (full : Bool) → AreFeatures P slots → AreFeatures P (if full then drop 1 slots else slots)
+room_features P [] true all = tt
+room_features P (slot ∷ slots) true all = all.1
+room_features P slots false all = all
+
+value_features : {V : Type 0} (P : List ℕ → V → Type 0) (name : List ℕ) (value : Arc V Global) (slots : List (Slot V)) (there : Bool) → P name value.value → AreFeatures P slots
+    → AreFeatures P (if there then filled name value slots else with_room slots ++ record { name = name; value = Some value } ∷ [])
+value_features P name value slots true this all = filled_features P name value slots this all
+value_features P name value slots false this all =
+    features-snoc P (with_room slots) (record { name = name; value = Some value }) (room_features P slots (nat_le 32 (length slots)) all) this
+
+filled_length : {V : Type 0} (name : List ℕ) (value : Arc V Global) (slot : Slot V) (slots : List (Slot V)) (same : Bool) → length (filled name value slots) ≡ length slots
+    → length (if same then record slot { value = Some value } ∷ slots else slot ∷ filled name value slots) ≡ length (slot ∷ slots)
+filled_length name value slot slots true rest = refl
+filled_length name value slot slots false rest = ap (λ n. suc n) rest
+
+length-filled : {V : Type 0} (name : List ℕ) (value : Arc V Global) (slots : List (Slot V)) → length (filled name value slots) ≡ length slots
+length-filled name value [] = refl
+length-filled name value (slot ∷ slots) = filled_length name value slot slots (same_name slot.name name) (length-filled name value slots)
+
+room_length : {V : Type 0} (slots : List (Slot V)) (full : Bool) → nat_le 32 (length slots) ≡ full → length slots ≤ 32 → length (if full then drop 1 slots else slots) + 1 ≤ 32
+room_length [] true is few = omega arith
+room_length (slot ∷ slots) true is few = omega (arith, few)
+room_length slots false is few = grind (arith, leb_tells 32 (length slots))
+
+value_length : {V : Type 0} (name : List ℕ) (value : Arc V Global) (slots : List (Slot V)) (there : Bool) → length slots ≤ 32
+    → length (if there then filled name value slots else with_room slots ++ record { name = name; value = Some value } ∷ []) ≤ 32
+value_length name value slots true few = omega (arith, few, length-filled name value slots)
+value_length name value slots false few =
+    omega (arith, room_length slots (nat_le 32 (length slots)) refl few, length-append (with_room slots) (record { name = name; value = Some value } ∷ []))
+
+abbrev pub kept_ticket : {V : Type 0} → KnownTicket V → ℕ → V → ℕ → KnownTicket V
+kept_ticket t session v spare = record t { session = session; had = (bound_kind, v) ∷ []; spare = spare }
+
+settled_true : (b : Bool) → (b || true) ≡ true
+settled_true true = refl
+settled_true false = refl
+
+pub core_kept : {V : Type 0} (chain : Chain) (feature : ℕ → Setting → List ℕ → V → Type 0) (image : Image) (hardware : Hardware) (facts : List Fact) (h : List Entry) (inputs : Setting) (count stamp : ℕ) (slots : List (Slot V)) (home : List ℕ) (room : ℕ) (l : KnownLanded V) (spare : ℕ) (value : Arc V Global) (v : V)
+    → IsCore chain (feature 11) (plain_opening image hardware facts) h inputs count stamp slots home room
+    → (fits : FitsLanded feature (plain_opening image hardware facts) h l)
+    → l.ticket.had ≡ []
+    → feature l.kind l.ticket.inputs l.ticket.name value.value
+    → v ≡ value.value
+    → 1 ≤ spare
+    → Gives chain feature (plain_opening image hardware facts) (h ++ Finish l.ticket.session l.kind l.ticket.name l.stamp KeptEnd ∷ []) inputs count stamp (with_value l.ticket.name value slots) (l.runs ∷ []) room (kept_ticket l.ticket l.ticket.session v spare)
+core_kept chain feature image hardware facts h inputs count stamp slots home room l spare value v core fits none gave same names =
+    let o : Opening = plain_opening image hardware facts in
+    let t : KnownTicket _ = l.ticket in
+    let flown = core_flown chain feature image hardware facts h inputs count stamp slots home room l core fits in
+    let run_is : run_of t l.kind l.stamp fits.runs ≡ plain_run t.name stamp fits.runs = flown.run_is in
+    let kind_is : l.kind ≡ bound_kind = ap (λ (r : Run). r.kind) run_is in
+    let entry : Entry = Finish 1 bound_kind t.name stamp KeptEnd in
+    let new : Ask = ask_of (kept_ticket t 1 v spare) in
+    let grew = ap (λ (hs : List (ℕ × _)). map (λ x. x.0) hs ++ bound_kind ∷ []) none in
+    let step_is = step_kept image hardware facts (edits_of h) stamp fits.runs slots (ask_of t) value core.stamp_is flown.absent
+      ∙ ap (λ ks. Some (plain_state (edits_of h) (map (row_of stamp) (with_value t.name value slots)) ((fits.runs + 1) ∷ []) [] (Some (record (ask_of t) { kinds = ks })))) grew in
+    let kept = grown chain o h entry _ _ [] ((fits.runs + 1) ∷ []) _ [] (Some (ask_of t)) (Some new) _ flown.kept step_is (sym (append-nil (edits_of h))) tt in
+    let K : ℕ → Type 0 = λ k. feature k t.inputs t.name value.value in
+    let I : Setting → Type 0 = λ i. feature bound_kind i t.name value.value in
+    let G : _ → Type 0 = λ x. feature bound_kind t.inputs t.name x in
+    let mine : feature bound_kind t.inputs t.name value.value = subst K kind_is gave in
+    let needs : entries_needed (Some new) ((fits.runs + 1) ∷ []) ≡ 1 = ap (λ b. if b then 1 else 3) (settled_true t.memory) in
+    let next = rebuilt chain (feature 11) o h entry inputs count stamp slots (with_value t.name value slots) home ((fits.runs + 1) ∷ []) room room [] (Some new) core refl kept
+      (value_features (feature 11 inputs) t.name value slots (has_slot t.name slots) (subst I flown.inputs_are mine) core.features) (value_length t.name value slots (has_slot t.name slots) core.few)
+      (refl, flown.here) (omega (arith, flown.within, needs)) (omega (arith, flown.ran), tt) tt in
+    let settled = settled_true t.memory in
+    let given : Gives chain feature o (h ++ entry ∷ []) inputs count stamp (with_value t.name value slots) ((fits.runs + 1) ∷ []) room (kept_ticket t 1 v spare) = record {
+      core = next;
+      legal = core_legal chain (feature 11) o _ inputs count stamp (with_value t.name value slots) _ room next;
+      fits = record {
+        st = _;
+        state = kept.state;
+        is_open = record {
+          ask = refl;
+          inputs = flown.inputs_are ∙ core_inputs_at chain (feature 11) o _ inputs count stamp (with_value t.name value slots) _ room next ∙ ap (λ n. after_edits image n (edits_of (h ++ entry ∷ []))) (sym flown.here);
+          features = (subst G (sym same) mine, tt)
+        };
+        rests = refl;
+        room = omega (arith, names, ap names_needed settled)
+      }
+    } in
+    let S : ℕ → Type 0 = λ s. Gives chain feature o (h ++ Finish s bound_kind t.name stamp KeptEnd ∷ []) inputs count stamp (with_value t.name value slots) ((fits.runs + 1) ∷ []) room (kept_ticket t s v spare) in
+    let D : ℕ → Type 0 = λ k. Gives chain feature o (h ++ Finish t.session k t.name stamp KeptEnd ∷ []) inputs count stamp (with_value t.name value slots) ((fits.runs + 1) ∷ []) room (kept_ticket t t.session v spare) in
+    let T : ℕ → Type 0 = λ n. Gives chain feature o (h ++ Finish t.session l.kind t.name n KeptEnd ∷ []) inputs count stamp (with_value t.name value slots) ((fits.runs + 1) ∷ []) room (kept_ticket t t.session v spare) in
+    let R : ℕ → Type 0 = λ n. Gives chain feature o (h ++ Finish t.session l.kind t.name l.stamp KeptEnd ∷ []) inputs count stamp (with_value t.name value slots) (n ∷ []) room (kept_ticket t t.session v spare) in
+    subst R (sym fits.ran) (subst T (ap (λ (r : Run). r.stamp) (sym run_is)) (subst D (sym kind_is) (subst S (sym flown.one) given)))
