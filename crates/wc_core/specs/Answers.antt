@@ -11,7 +11,7 @@ use Rattle.wc_model.specs.declared.flow_facts.Fact.TheVariants.{Checksum}
 use Rattle.wc_model.specs.declared.inputs.Edit.{Edit}
 use Rattle.wc_model.specs.declared.inputs.Edit.TheVariants.{Drop}
 use Rattle.wc_model.specs.Edits.{Setting, after, edits_of}
-use Rattle.wc_model.specs.History.{Opening, State, Chain, state_after, is_free, can_edit, is_live}
+use Rattle.wc_model.specs.History.{Opening, State, Chain, state_after, is_free, can_edit, is_live, home_of, bound_kind}
 use Rattle.wc_core.specs.declared.answers.Edited.{Edited}
 use Rattle.wc_core.specs.declared.answers.Edited.TheVariants.{Done, NoFact as NotLive}
 use Rattle.wc_core.specs.Fits.{FitsTicket, FitsFlight}
@@ -103,3 +103,13 @@ pub record IsGiven {V : Type 0} (feature : ℕ → Setting → List ℕ → V �
   pub memory : t.memory ≡ is_none l.gave
   pub entry : adds old new (Finish l.ticket.session l.kind l.ticket.name l.stamp end)
   pub fits : FitsTicket feature new.opening new.history t
+
+-- No run is out.
+pub record RunsNothing (o : Opening) (history : List Entry) : Type 0 where
+  pub st : State
+  pub state : state_after o history ≡ Some st
+  pub none : st.out ≡ []
+
+-- The numbers of runs of the works of the bound, as the replay has them.
+abbrev pub AreRuns : Opening → List Entry → List ℕ → Type 0
+AreRuns o history runs = (st : State) → state_after o history ≡ Some st → runs ≡ home_of bound_kind st.home

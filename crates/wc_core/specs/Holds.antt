@@ -59,6 +59,15 @@ abbrev pub has_slot : {V : Type 0} → List ℕ → List (Slot V) → Bool
 has_slot name [] = false
 has_slot name (slot ∷ slots) = same_name slot.name name || has_slot name slots
 
+-- The place of the first row with a name.
+abbrev pub next_place : Option ℕ → Option ℕ
+next_place None = None
+next_place (Some n) = Some (n + 1)
+
+abbrev pub slot_place : {V : Type 0} → List ℕ → List (Slot V) → Option ℕ
+slot_place name [] = None
+slot_place name (slot ∷ slots) = if same_name slot.name name then Some 0 else next_place (slot_place name slots)
+
 -- A kept value goes into the row of its name, or else into a new one.
 abbrev pub filled : {V : Type 0} → List ℕ → Arc V Global → List (Slot V) → List (Slot V)
 filled name value [] = []

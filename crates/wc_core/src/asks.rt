@@ -1,16 +1,20 @@
 ghost use Rattle.std.specs.Prelude.{ℕ, ◌≡◌, ◌∷◌, [], ◌++◌, ◌+◌, ◌*◌, true, false, IfOk, OnErr, MatchResult, MatchOption, length};
-ghost use Rattle.wc_model.specs.Edits.{setting_of};
+ghost use Rattle.wc_model.specs.Edits.{after};
 ghost use Rattle.wc_model.specs.History.{IsLegal};
 ghost use Rattle.wc_core.specs.Answers.{LeavesFree, IsPinned, IsDone, IsStarted, IsBusy, IsGiven};
 ghost use Rattle.wc_core.specs.Features.{Each};
-ghost use Rattle.wc_core.specs.Fits.{FitsTicket, FitsLanded};
+ghost use Rattle.wc_core.specs.Fits.{EachFeature, FitsTicket, FitsFlight, FitsLanded};
+ghost use Rattle.wc_core.specs.Holds.{AreFeatures, is_reached};
+ghost use Rattle.wc_core.specs.Turns.{IsTurn, OutcomeIs, answers, starts};
+ghost use Rattle.wc_core.specs.Views.{SameAsk, ask_of};
 
 use crate::shared::Core;
+use crate::store::{Slot, find_value};
 use crate::tickets::{Flight, Landed, Next, Ticket};
 use crate::work::Work;
 use std::alloc::{AllocError, Global};
 use std::sync::Arc;
-use wc_model::{Asked, End, Entry, Kind, Outcome, Text};
+use wc_model::{Asked, Entry, Outcome, Text};
 
 // How many copies of its name an ask needs: one for a row of the store, and one for each entry to come.
 const NAMES: usize = 4;
@@ -34,7 +38,93 @@ fn copies_of(alloc: Global, name: &[u8]) -> Result<Vec<Text>, AllocError>
     Ok(names)
 }
 
+// The outcome that an ask can answer with now: want of memory where a run of it found none, or else that of its bound.
+fn reached<W: Work>(slots: &[Slot<W::Value>], ticket: &Ticket<W::Value>) -> Option<Outcome>
+    requires stored { AreFeatures (W.is_feature 11 ticket.now.inputs) slots.now }
+    requires held { EachFeature (λ k v. W.is_feature k ticket.now.inputs ticket.now.name v) ticket.now.had }
+    ensures { MatchOption result (is_reached ticket.now slots.now ≡ false) (λ o. (is_reached ticket.now slots.now ≡ true) × OutcomeIs W.chain ticket.now.memory ticket.now.inputs ticket.now.name o) }
+{
+    if ticket.memory {
+        return Some(Outcome::Memory);
+    }
+    if let Some(value) = &ticket.had {
+        return W::outcome(value);
+    }
+    match find_value(slots, ticket.name.items()) {
+        Some(value) => W::outcome(value),
+        None => None,
+    }
+}
+
 impl<W: Work> Core<W> {
+    fn outcome_for(&self, ticket: &Ticket<W::Value>) -> Option<Outcome>
+        requires { FitsTicket W.is_feature self.now.opening self.now.history ticket.now }
+        ensures { MatchOption result (IsTurn self.now.opening self.now.history (ask_of ticket.now) (starts 11)) (λ o. IsTurn self.now.opening self.now.history (ask_of ticket.now) answers × OutcomeIs W.chain ticket.now.memory (after self.now.opening.image ticket.now.at self.now.history) ticket.now.name o) }
+    {
+        reached::<W>(self.slots.as_slice(), ticket)
+    }
+
+    fn answer(&mut self, mut ticket: Ticket<W::Value>, outcome: Outcome) -> Asked
+        requires fits { FitsTicket W.is_feature self.old.opening self.old.history ticket }
+        requires turn { IsTurn self.old.opening self.old.history (ask_of ticket) answers }
+        requires told { OutcomeIs W.chain ticket.memory (after self.old.opening.image ticket.at self.old.history) ticket.name outcome }
+        ensures opening { self.new.opening ≡ self.old.opening }
+        ensures legal { IsLegal W.chain self.new.opening self.new.history }
+        ensures here { (result.at ≡ ticket.at) × (result.outcome ≡ outcome) }
+        ensures entry { self.new.history ≡ self.old.history ++ Entry.Answer ticket.session ticket.name ticket.at outcome ∷ [] }
+        ensures free { LeavesFree self.new.opening self.new.history ticket.session }
+    {
+        let name = ticket.take_name();
+        self.history.push_reserved(Entry::Answer {
+            session: ticket.session,
+            name,
+            at: ticket.at,
+            outcome,
+        });
+        Asked {
+            at: ticket.at,
+            outcome,
+        }
+    }
+
+    fn depart(&mut self, mut ticket: Ticket<W::Value>) -> Flight<W>
+        requires fits { FitsTicket W.is_feature self.old.opening self.old.history ticket }
+        requires turn { IsTurn self.old.opening self.old.history (ask_of ticket) (starts 11) }
+        ensures opening { self.new.opening ≡ self.old.opening }
+        ensures legal { IsLegal W.chain self.new.opening self.new.history }
+        ensures kind { result.kind ≡ 11 }
+        ensures same { SameAsk ticket result.ticket }
+        ensures entry { self.new.history ≡ self.old.history ++ Entry.Start ticket.session result.kind ticket.name result.stamp ∷ [] }
+        ensures fits { FitsFlight W.is_feature self.new.opening self.new.history result }
+    {
+        let work = self.works.take_last();
+        let name = ticket.take_name();
+        self.history.push_reserved(Entry::Start {
+            session: ticket.session,
+            kind: work.kind(),
+            name,
+            stamp: self.stamp,
+        });
+        Flight {
+            work,
+            ticket,
+            stamp: self.stamp,
+        }
+    }
+
+    /// Answers the ask, or sends out the work that is needed next. It takes no memory.
+    pub fn next(&mut self, ticket: Ticket<W::Value>) -> Next<W>
+        requires { FitsTicket W.is_feature self.old.opening self.old.history ticket }
+        ensures opening { self.new.opening ≡ self.old.opening }
+        ensures legal { IsLegal W.chain self.new.opening self.new.history }
+        ensures answer { elim result [ Next.Done asked ↦ IsDone W.chain self.old self.new ticket asked | Next.Run flight ↦ IsStarted W.is_feature self.old self.new ticket flight | Next.Busy back session ↦ IsBusy self.old self.new ticket back session ] }
+    {
+        match self.outcome_for(&ticket) {
+            Some(outcome) => Next::Done(self.answer(ticket, outcome)),
+            None => Next::Run(self.depart(ticket)),
+        }
+    }
+
     /// Opens an ask for the inputs as they are now. It takes all the memory that `next` and `give` will need.
     pub fn pin(&mut self, session: u32, name: &[u8]) -> Result<Ticket<W::Value>, AllocError>
         requires { LeavesFree self.old.opening self.old.history session }
