@@ -36,6 +36,9 @@ pub record KnownLanded (V : Type 0) : Type 0 where
   pub runs : ℕ
   pub gave : Option V
 
+abbrev pub landed_of : {V : Type 0} → KnownTicket V → ℕ → ℕ → ℕ → Option V → KnownLanded V
+landed_of t kind stamp runs gave = record { ticket = t; kind = kind; stamp = stamp; runs = runs; gave = gave }
+
 abbrev pub ask_of : {V : Type 0} → KnownTicket V → Ask
 ask_of t = record { name = t.name; at = t.at; kinds = map (λ h. h.0) t.had; memory = t.memory }
 

@@ -1,20 +1,20 @@
-ghost use Rattle.std.specs.Prelude.{ℕ, ◌≡◌, ◌∷◌, [], ◌++◌, ◌+◌, ◌*◌, true, false, IfOk, OnErr, MatchResult, MatchOption, length};
+ghost use Rattle.std.specs.Prelude.{ℕ, ◌≡◌, ◌∷◌, [], ◌++◌, ◌+◌, ◌*◌, true, false, IfOk, OnErr, MatchResult, MatchOption, length, Some, None};
 ghost use Rattle.wc_model.specs.Edits.{after};
 ghost use Rattle.wc_model.specs.History.{IsLegal};
 ghost use Rattle.wc_core.specs.Answers.{LeavesFree, IsPinned, IsDone, IsStarted, IsBusy, IsGiven};
 ghost use Rattle.wc_core.specs.Features.{Each};
 ghost use Rattle.wc_core.specs.Fits.{EachFeature, FitsTicket, FitsFlight, FitsLanded};
-ghost use Rattle.wc_core.specs.Holds.{AreFeatures, is_reached};
+ghost use Rattle.wc_core.specs.Holds.{AreFeatures, has_value, is_reached};
 ghost use Rattle.wc_core.specs.Turns.{IsTurn, OutcomeIs, answers, starts};
-ghost use Rattle.wc_core.specs.Views.{SameAsk, ask_of};
+ghost use Rattle.wc_core.specs.Views.{SameAsk, ask_of, landed_of};
 
 use crate::shared::Core;
-use crate::store::{Slot, find_value};
+use crate::store::{Slot, find_value, keep};
 use crate::tickets::{Flight, Landed, Next, Ticket};
 use crate::work::Work;
 use std::alloc::{AllocError, Global};
 use std::sync::Arc;
-use wc_model::{Asked, Entry, Outcome, Text};
+use wc_model::{Asked, End, Entry, Outcome, Text};
 
 // How many copies of its name an ask needs: one for a row of the store, and one for each entry to come.
 const NAMES: usize = 4;
@@ -38,6 +38,17 @@ fn copies_of(alloc: Global, name: &[u8]) -> Result<Vec<Text>, AllocError>
     Ok(names)
 }
 
+// The outcome of the bound that is stored for an ask.
+fn stored_outcome<W: Work>(slots: &[Slot<W::Value>], ticket: &Ticket<W::Value>) -> Option<Outcome>
+    requires { AreFeatures (W.is_feature 11 ticket.now.inputs) slots.now }
+    ensures { MatchOption result (has_value ticket.now.name slots.now ≡ false) (λ o. (has_value ticket.now.name slots.now ≡ true) × OutcomeIs W.chain false ticket.now.inputs ticket.now.name o) }
+{
+    match find_value(slots, ticket.name.items()) {
+        Some(value) => W::outcome(value),
+        None => None,
+    }
+}
+
 // The outcome that an ask can answer with now: want of memory where a run of it found none, or else that of its bound.
 fn reached<W: Work>(slots: &[Slot<W::Value>], ticket: &Ticket<W::Value>) -> Option<Outcome>
     requires stored { AreFeatures (W.is_feature 11 ticket.now.inputs) slots.now }
@@ -47,12 +58,9 @@ fn reached<W: Work>(slots: &[Slot<W::Value>], ticket: &Ticket<W::Value>) -> Opti
     if ticket.memory {
         return Some(Outcome::Memory);
     }
-    if let Some(value) = &ticket.had {
-        return W::outcome(value);
-    }
-    match find_value(slots, ticket.name.items()) {
+    match &ticket.had {
         Some(value) => W::outcome(value),
-        None => None,
+        None => stored_outcome::<W>(slots, ticket),
     }
 }
 
@@ -122,6 +130,85 @@ impl<W: Work> Core<W> {
         match self.outcome_for(&ticket) {
             Some(outcome) => Next::Done(self.answer(ticket, outcome)),
             None => Next::Run(self.depart(ticket)),
+        }
+    }
+
+    // Want of memory comes home.
+    fn take_back(&mut self, work: W, mut ticket: Ticket<W::Value>, stamp: u64) -> Ticket<W::Value>
+        requires ready { W.may_run work }
+        requires fits { FitsLanded W.is_feature self.old.opening self.old.history (landed_of ticket (W.kind_of work) stamp (W.runs_of work) None) }
+        ensures opening { self.new.opening ≡ self.old.opening }
+        ensures legal { IsLegal W.chain self.new.opening self.new.history }
+        ensures same { SameAsk ticket result }
+        ensures memory { result.memory ≡ true }
+        ensures entry { self.new.history ≡ self.old.history ++ Entry.Finish ticket.session (W.kind_of work) ticket.name stamp End.Memory ∷ [] }
+        ensures fits { FitsTicket W.is_feature self.new.opening self.new.history result }
+    {
+        let name = ticket.take_name();
+        let kind = work.kind();
+        self.works.push_reserved(work);
+        self.history.push_reserved(Entry::Finish {
+            session: ticket.session,
+            kind,
+            name,
+            stamp,
+            end: End::Memory,
+        });
+        ticket.memory = true;
+        ticket
+    }
+
+    // A value comes home. With one session no edit came since the ask was pinned, so it is kept.
+    fn take_in(
+        &mut self,
+        work: W,
+        mut ticket: Ticket<W::Value>,
+        stamp: u64,
+        value: Arc<W::Value>,
+        own: Arc<W::Value>,
+    ) -> Ticket<W::Value>
+        requires ready { W.may_run work }
+        requires copies { own.value ≡ value.value }
+        requires fits { FitsLanded W.is_feature self.old.opening self.old.history (landed_of ticket (W.kind_of work) stamp (W.runs_of work) (Some value.value)) }
+        ensures opening { self.new.opening ≡ self.old.opening }
+        ensures legal { IsLegal W.chain self.new.opening self.new.history }
+        ensures same { SameAsk ticket result }
+        ensures memory { result.memory ≡ false }
+        ensures entry { self.new.history ≡ self.old.history ++ Entry.Finish ticket.session (W.kind_of work) ticket.name stamp End.Kept ∷ [] }
+        ensures fits { FitsTicket W.is_feature self.new.opening self.new.history result }
+    {
+        let name = ticket.take_name();
+        let row = ticket.take_name();
+        let kind = work.kind();
+        self.works.push_reserved(work);
+        self.history.push_reserved(Entry::Finish {
+            session: ticket.session,
+            kind,
+            name,
+            stamp,
+            end: End::Kept,
+        });
+        keep(&mut self.slots, row, value);
+        ticket.had = Some(own);
+        ticket
+    }
+
+    /// Takes the work back, and keeps the value that it gave. It takes no memory.
+    pub fn give(&mut self, landed: Landed<W>) -> Ticket<W::Value>
+        requires { FitsLanded W.is_feature self.old.opening self.old.history landed }
+        ensures opening { self.new.opening ≡ self.old.opening }
+        ensures legal { IsLegal W.chain self.new.opening self.new.history }
+        ensures answer { IsGiven W.is_feature self.old self.new landed result }
+    {
+        let Landed {
+            work,
+            ticket,
+            stamp,
+            gave,
+        } = landed;
+        match gave {
+            None => self.take_back(work, ticket, stamp),
+            Some((value, own)) => self.take_in(work, ticket, stamp, value, own),
         }
     }
 

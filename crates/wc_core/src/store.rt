@@ -1,6 +1,7 @@
 ghost use Rattle.std.specs.Prelude.{◌≡◌, ◌≤◌, ◌<◌, ℕ, map, length, MatchOption, None, Some, false, true};
 ghost use Rattle.std.specs.Vec.{vec_capacity};
-ghost use Rattle.wc_core.specs.Holds.{emptied, slots_after, has_slot, value_at, with_value, slot_place};
+ghost use Rattle.wc_model.specs.History.{with_room};
+ghost use Rattle.wc_core.specs.Holds.{emptied, slots_after, value_at, with_value, slot_place};
 
 use std::sync::Arc;
 use wc_model::Text;
@@ -56,6 +57,18 @@ fn place_of<V>(slots: &[Slot<V>], name: &[u8]) -> Option<usize>
     None
 }
 
+// Takes out the row that was made earliest where there is no place for a further one.
+fn make_room<V: Drop>(slots: &mut Vec<Slot<V>>)
+    requires { length slots.old.items ≤ 32 }
+    ensures items { slots.new.items ≡ with_room slots.old.items }
+    ensures few { length slots.new.items < 32 }
+    ensures capacity { vec_capacity slots.new ≡ vec_capacity slots.old }
+{
+    if 32 <= slots.len() {
+        slots.remove(0);
+    }
+}
+
 /// Keeps a value in the row of its name. For a 33rd name the row made earliest leaves.
 pub(crate) fn keep<V: Drop>(slots: &mut Vec<Slot<V>>, name: Text, value: Arc<V>)
     requires few { length slots.old.items ≤ 32 }
@@ -69,9 +82,7 @@ pub(crate) fn keep<V: Drop>(slots: &mut Vec<Slot<V>>, name: Text, value: Arc<V>)
             slot.value = Some(value);
         }
         None => {
-            if slots.len() == 32 {
-                slots.remove(0);
-            }
+            make_room(slots);
             slots.push_reserved(Slot {
                 name,
                 value: Some(value),
