@@ -1,19 +1,22 @@
 -- What each entry does to the replay while there is one kind, one work and one session.
-use Rattle.std.proofs.Common.{◌≡◌, ℕ, zero, suc, ◌+◌, ◌≤◌, Bool, true, false, not, ◌&&◌, ◌||◌, ◌==◌, List, [], ◌∷◌, ◌++◌, length, take, map, filter, Option, None, Some, refl, sym, ap, ◌∙◌, arith, eq-eqb, is_some, if◌then◌else◌}
+use Rattle.std.proofs.Common.{◌≡◌, ℕ, zero, suc, ◌+◌, ◌≤◌, Bool, true, false, not, ◌&&◌, ◌||◌, ◌==◌, List, [], ◌∷◌, ◌++◌, length, take, drop, map, filter, Option, None, Some, refl, sym, ap, ◌∙◌, arith, eq-eqb, is_some, if◌then◌else◌, nat_le}
 use Rattle.std.proofs.lemmas.List.{append-nil}
+use Rattle.std.specs.Global.{Global}
+use Rattle.std.specs.declared.sync.Arc.{Arc}
 use Rattle.std.proofs.Math.Seq.{take-length}
 use Rattle.wc_model.specs.declared.elf_image.Image.{Image}
-use Rattle.wc_model.specs.declared.entries.End.TheVariants.{Kept, Dropped, Memory}
+use Rattle.wc_model.specs.declared.entries.End.TheVariants.{Kept, Memory}
 use Rattle.wc_model.specs.declared.entries.Entry.TheVariants.{Edit as EditEntry, NoFact, Pin, Start, Finish, Answer, List as ListEntry}
 use Rattle.wc_model.specs.declared.flow_facts.Fact.{Fact}
 use Rattle.wc_model.specs.declared.inputs.Edit.{Edit}
 use Rattle.wc_model.specs.declared.machine.Hardware.{Hardware}
 use Rattle.wc_model.specs.declared.values.Outcome.{Outcome}
+use Rattle.wc_model.specs.declared.values.Outcome.TheVariants.{Memory as NoMemory}
 use Rattle.wc_model.specs.Closures.{touches_any, last_touch, has_kind}
 use Rattle.wc_model.specs.Edits.{Setting, bare, all_edited, edited}
-use Rattle.wc_model.specs.History.{Opening, State, Row, Run, Ask, step, allow, same_name, in_store, has_key, is_touched, untouched_keys, can_edit, is_live, after_edit, bound_kind}
+use Rattle.wc_model.specs.History.{Opening, State, Row, Run, Ask, step, allow, same_name, in_store, has_key, has_row, with_key, stored, with_room, is_touched, untouched_keys, can_edit, is_live, after_edit, is_memory, bound_kind}
 use Rattle.wc_core.specs.declared.store.Slot.{Slot}
-use Rattle.wc_core.specs.Holds.{all_parts, plain_opening, plain_state, keys_of, row_of, emptied, slots_after, stamp_after, has_value}
+use Rattle.wc_core.specs.Holds.{all_parts, plain_opening, plain_state, keys_of, row_of, emptied, slots_after, stamp_after, has_value, has_slot, filled, with_value}
 use Rattle.wc_core.specs.Views.{value_of}
 
 and_true : (a b : Bool) → a ≡ true → b ≡ true → (a && b) ≡ true
@@ -165,3 +168,123 @@ step_start image hardware facts edits stamp runs slots ask here same quiet lacks
       (same_number stamp _ (sym (stamp_here image edits stamp ask.at here same)))) refl) unreached) unreached) refl) refl)
       ∙ ap (λ kinds. Some (started ask edits (map (row_of stamp) slots) (record { session = 1; kind = bound_kind; name = ask.name; stamp = stamp; runs = runs } ∷ []) (ask.kinds ++ kinds))) (none_taken (has_kind bound_kind ask.kinds) _ unstored)
       ∙ ap (λ kinds. Some (started ask edits (map (row_of stamp) slots) (record { session = 1; kind = bound_kind; name = ask.name; stamp = stamp; runs = runs } ∷ []) kinds)) (append-nil ask.kinds)
+
+-- A finish.
+
+has_key-snoc : (stamp : ℕ) → has_key bound_kind stamp ((bound_kind, stamp) ∷ []) ≡ true
+has_key-snoc stamp = rw (same_number stamp stamp refl) refl
+
+same_rows : {V : Type 0} (name : List ℕ) (slots : List (Slot V)) (stamp : ℕ) → has_row name (map (row_of stamp) slots) ≡ has_slot name slots
+same_rows name [] stamp = refl
+same_rows name (slot ∷ slots) stamp = ap (λ b. same_name slot.name name || b) (same_rows name slots stamp)
+
+or_left : (a b : Bool) → (a || b) ≡ false → a ≡ false
+or_left false b p = refl
+or_left true b p = p
+
+or_right : (a b : Bool) → (a || b) ≡ false → b ≡ false
+or_right false b p = p
+or_right true b p = cc
+
+and_some : (a b : Bool) → a ≡ true → (a && b) ≡ false → b ≡ false
+and_some true b p q = q
+and_some false b p q = cc
+
+keys_filled : {V : Type 0} (stamp : ℕ) (v : Option V) → is_some v ≡ false → keys_of stamp v ++ (bound_kind, stamp) ∷ [] ≡ (bound_kind, stamp) ∷ []
+keys_filled stamp None p = refl
+keys_filled stamp (Some v) p = cc
+
+filled_row : {V : Type 0} (name : List ℕ) (stamp : ℕ) (value : Arc V Global) (slot : Slot V) (slots : List (Slot V)) (same : Bool) → same_name slot.name name ≡ same
+    → (same ≡ true → is_some (value_of slot.value) ≡ false)
+    → with_key name bound_kind stamp (map (row_of stamp) slots) ≡ map (row_of stamp) (filled name value slots)
+    → with_key name bound_kind stamp (map (row_of stamp) (slot ∷ slots)) ≡ map (row_of stamp) (filled name value (slot ∷ slots))
+unfolding row_with
+filled_row name stamp value slot slots true is empty rest =
+    rw is (ap (λ ks. row_with slot.name ks ∷ map (row_of stamp) slots) (keys_filled stamp (value_of slot.value) (empty refl)))
+filled_row name stamp value slot slots false is empty rest = rw is (ap (λ rs. row_of stamp slot ∷ rs) rest)
+
+filled_rows : {V : Type 0} (name : List ℕ) (stamp : ℕ) (value : Arc V Global) (slots : List (Slot V)) → has_value name slots ≡ false
+    → with_key name bound_kind stamp (map (row_of stamp) slots) ≡ map (row_of stamp) (filled name value slots)
+filled_rows name stamp value [] absent = refl
+filled_rows name stamp value (slot ∷ slots) absent =
+    filled_row name stamp value slot slots (same_name slot.name name) refl (λ same. and_some (same_name slot.name name) _ same (or_left _ _ absent))
+      (filled_rows name stamp value slots (or_right (same_name slot.name name && is_some (value_of slot.value)) _ absent))
+
+length-rows : {V : Type 0} (stamp : ℕ) (slots : List (Slot V)) → length (map (row_of stamp) slots) ≡ length slots
+length-rows stamp [] = refl
+length-rows stamp (slot ∷ slots) = ap (λ n. suc n) (length-rows stamp slots)
+
+room_case : {V : Type 0} (stamp : ℕ) (slots : List (Slot V)) (full : Bool)
+    → (if full then drop 1 (map (row_of stamp) slots) else map (row_of stamp) slots) ≡ map (row_of stamp) (if full then drop 1 slots else slots)
+room_case stamp [] true = refl
+room_case stamp (slot ∷ slots) true = refl
+room_case stamp slots false = refl
+
+room_rows : {V : Type 0} (stamp : ℕ) (slots : List (Slot V)) → with_room (map (row_of stamp) slots) ≡ map (row_of stamp) (with_room slots)
+room_rows stamp slots = ap (λ n. if nat_le 32 n then drop 1 (map (row_of stamp) slots) else map (row_of stamp) slots) (length-rows stamp slots) ∙ room_case stamp slots (nat_le 32 (length slots))
+
+snoc_rows : {V : Type 0} (stamp : ℕ) (slots : List (Slot V)) (slot : Slot V) → map (row_of stamp) (slots ++ slot ∷ []) ≡ map (row_of stamp) slots ++ row_of stamp slot ∷ []
+snoc_rows stamp [] slot = refl
+snoc_rows stamp (s ∷ slots) slot = ap (λ rs. row_of stamp s ∷ rs) (snoc_rows stamp slots slot)
+
+stored_case : {V : Type 0} (name : List ℕ) (stamp : ℕ) (value : Arc V Global) (slots : List (Slot V)) (there : Bool) → has_value name slots ≡ false
+    → (if there then with_key name bound_kind stamp (map (row_of stamp) slots) else with_room (map (row_of stamp) slots) ++ row_with name ((bound_kind, stamp) ∷ []) ∷ [])
+        ≡ map (row_of stamp) (if there then filled name value slots else with_room slots ++ record { name = name; value = Some value } ∷ [])
+unfolding row_with
+stored_case name stamp value slots true absent = filled_rows name stamp value slots absent
+stored_case name stamp value slots false absent =
+    ap (λ rs. rs ++ row_with name ((bound_kind, stamp) ∷ []) ∷ []) (room_rows stamp slots) ∙ sym (snoc_rows stamp (with_room slots) (record { name = name; value = Some value }))
+
+pub stored_rows : {V : Type 0} (name : List ℕ) (stamp : ℕ) (value : Arc V Global) (slots : List (Slot V)) → has_value name slots ≡ false
+    → stored name bound_kind stamp (map (row_of stamp) slots) ≡ map (row_of stamp) (with_value name value slots)
+unfolding row_with
+stored_rows name stamp value slots absent =
+    ap (λ b. if b then with_key name bound_kind stamp (map (row_of stamp) slots) else with_room (map (row_of stamp) slots) ++ row_with name ((bound_kind, stamp) ∷ []) ∷ []) (same_rows name slots stamp)
+      ∙ stored_case name stamp value slots (has_slot name slots) absent
+
+finished : Ask → List Edit → List ℕ → List Row → State
+finished ask edits home rows = plain_state edits rows home [] (Some ask)
+
+finish_allowed : (stamp now : ℕ) (name : List ℕ) → stamp ≡ now → (bound_kind == bound_kind && same_name name name && stamp == stamp && stamp == now) ≡ true
+finish_allowed stamp now name same = and_true _ _ (and_true _ _ (and_true _ _ refl (same_name_refl name)) (same_number stamp stamp refl)) (same_number stamp now same)
+
+memory_allowed : (stamp : ℕ) (name : List ℕ) → (bound_kind == bound_kind && same_name name name && stamp == stamp && true) ≡ true
+memory_allowed stamp name = and_true _ _ (and_true _ _ (and_true _ _ refl (same_name_refl name)) (same_number stamp stamp refl)) refl
+
+pub step_kept : {V : Type 0} (image : Image) (hardware : Hardware) (facts : List Fact) (edits : List Edit) (stamp runs : ℕ) (slots : List (Slot V)) (ask : Ask) (value : Arc V Global)
+    → stamp ≡ last_touch all_parts 0 0 (bare image) edits
+    → has_value ask.name slots ≡ false
+    → step (plain_opening image hardware facts) (plain_state edits (map (row_of stamp) slots) [] (record { session = 1; kind = bound_kind; name = ask.name; stamp = stamp; runs = runs } ∷ []) (Some ask)) (Finish 1 bound_kind ask.name stamp Kept)
+        ≡ Some (plain_state edits (map (row_of stamp) (with_value ask.name value slots)) ((runs + 1) ∷ []) [] (Some (record ask { kinds = ask.kinds ++ bound_kind ∷ [] })))
+unfolding finished
+step_kept image hardware facts edits stamp runs slots ask value same absent =
+    if_true _ _ (finish_allowed stamp _ ask.name (same ∙ sym (stamp_of_take image edits)))
+      ∙ ap (λ rows. Some (finished (record ask { kinds = ask.kinds ++ bound_kind ∷ [] }) edits ((runs + 1) ∷ []) rows)) (stored_rows ask.name stamp value slots absent)
+
+pub step_memory : (image : Image) (hardware : Hardware) (facts : List Fact) (edits : List Edit) (stamp runs : ℕ) (rows : List Row) (ask : Ask)
+    → step (plain_opening image hardware facts) (plain_state edits rows [] (record { session = 1; kind = bound_kind; name = ask.name; stamp = stamp; runs = runs } ∷ []) (Some ask)) (Finish 1 bound_kind ask.name stamp Memory)
+        ≡ Some (plain_state edits rows ((runs + 1) ∷ []) [] (Some (record ask { memory = true })))
+step_memory image hardware facts edits stamp runs rows ask = if_true _ _ (memory_allowed stamp ask.name)
+
+-- An answer.
+
+pub step_no_memory : (image : Image) (hardware : Hardware) (facts : List Fact) (edits : List Edit) (rows : List Row) (home : List ℕ) (ask : Ask)
+    → ask.memory ≡ true
+    → step (plain_opening image hardware facts) (plain_state edits rows home [] (Some ask)) (Answer 1 ask.name ask.at NoMemory) ≡ Some (plain_state edits rows home [] None)
+step_no_memory image hardware facts edits rows home ask memory =
+    if_true _ _ (and_true _ _ (and_true _ _ (and_true _ _ (same_name_refl ask.name) (same_number ask.at ask.at refl)) refl) (rw memory refl))
+
+reach_true : (m r : Bool) → m ≡ false → r ≡ true → (not m && r) ≡ true
+reach_true true r p q = cc
+reach_true false r p q = q
+
+pub step_reached : {V : Type 0} (image : Image) (hardware : Hardware) (facts : List Fact) (edits : List Edit) (stamp : ℕ) (slots : List (Slot V)) (home : List ℕ) (ask : Ask) (outcome : Outcome)
+    → ask.at ≡ length edits
+    → stamp ≡ last_touch all_parts 0 0 (bare image) edits
+    → ask.memory ≡ false
+    → (has_kind bound_kind ask.kinds || has_value ask.name slots) ≡ true
+    → is_memory outcome ≡ false
+    → step (plain_opening image hardware facts) (plain_state edits (map (row_of stamp) slots) home [] (Some ask)) (Answer 1 ask.name ask.at outcome) ≡ Some (plain_state edits (map (row_of stamp) slots) home [] None)
+step_reached image hardware facts edits stamp slots home ask outcome here same quiet reached bound =
+    let within = ap (λ b. has_kind bound_kind ask.kinds || b) (stored_is image edits stamp ask.at slots ask.name here same) ∙ reached in
+    if_true _ _ (and_true _ _ (and_true _ _ (and_true _ _ (same_name_refl ask.name) (same_number ask.at ask.at refl)) refl) (rw quiet (reach_true _ _ bound within)))

@@ -29,3 +29,8 @@ abbrev pub Tells : (Outcome → Type 0) → Option Outcome → Type 0
 Tells chain None = ⊥
 Tells chain (Some Memory) = ⊥
 Tells chain (Some outcome) = chain outcome
+
+-- A fact of each item of a list.
+abbrev pub Each : {A : Type 0} → (A → Type 0) → List A → Type 0
+Each P [] = Unit {0}
+Each P (x ∷ xs) = P x × Each P xs

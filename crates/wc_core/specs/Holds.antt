@@ -14,7 +14,8 @@ use Rattle.wc_model.specs.Closures.{has_kind, last_touch}
 use Rattle.wc_model.specs.Edits.{Setting, bare, all_edited, edits_of}
 use Rattle.wc_model.specs.History.{Opening, State, Row, Run, Ask, Chain, EachRight, state_after, opened, opening_entries, bound_kind, same_name, with_room}
 use Rattle.wc_core.specs.declared.store.Slot.{Slot}
-use Rattle.wc_core.specs.Views.{value_of}
+use Rattle.wc_core.specs.Features.{Each}
+use Rattle.wc_core.specs.Views.{KnownTicket, value_of}
 
 abbrev pub all_parts : List Part
 all_parts = Steer ∷ Loops ∷ Limits ∷ Cache ∷ Cycles ∷ []
@@ -58,6 +59,15 @@ abbrev pub has_slot : {V : Type 0} → List ℕ → List (Slot V) → Bool
 has_slot name [] = false
 has_slot name (slot ∷ slots) = same_name slot.name name || has_slot name slots
 
+-- The place of the first row with a name.
+abbrev pub next_place : Option ℕ → Option ℕ
+next_place None = None
+next_place (Some n) = Some (n + 1)
+
+abbrev pub slot_place : {V : Type 0} → List ℕ → List (Slot V) → Option ℕ
+slot_place name [] = None
+slot_place name (slot ∷ slots) = if same_name slot.name name then Some 0 else next_place (slot_place name slots)
+
 -- A kept value goes into the row of its name, or else into a new one.
 abbrev pub filled : {V : Type 0} → List ℕ → Arc V Global → List (Slot V) → List (Slot V)
 filled name value [] = []
@@ -66,6 +76,19 @@ filled name value (slot ∷ slots) = if same_name slot.name name then record slo
 abbrev pub with_value : {V : Type 0} → List ℕ → Arc V Global → List (Slot V) → List (Slot V)
 with_value name value slots =
     if has_slot name slots then filled name value slots else with_room slots ++ record { name = name; value = Some value } ∷ []
+
+-- The value that is stored for a name.
+abbrev pub first_of : {V : Type 0} → Option V → Option V → Option V
+first_of None rest = rest
+first_of (Some v) rest = Some v
+
+abbrev pub value_at : {V : Type 0} → List ℕ → List (Slot V) → Option V
+value_at name [] = None
+value_at name (slot ∷ slots) = if same_name slot.name name then first_of (value_of slot.value) (value_at name slots) else value_at name slots
+
+-- Whether an ask can answer: a run of it found no memory, it has the bound, or the bound is stored.
+abbrev pub is_reached : {V : Type 0} → KnownTicket V → List (Slot V) → Bool
+is_reached t slots = t.memory || (has_kind bound_kind (map (λ h. h.0) t.had) || has_value t.name slots)
 
 abbrev pub AreFeatures : {V : Type 0} → (List ℕ → V → Type 0) → List (Slot V) → Type 0
 AreFeatures feature [] = Unit {0}
@@ -100,3 +123,4 @@ pub record IsCore {V : Type 0} (chain : Chain) (feature : Setting → List ℕ �
   pub turn : IsTurnOf count stamp slots ask home out
   pub within : length history + entries_needed ask home ≤ room
   pub counted : count ≤ length history
+  pub ran : Each (λ (runs : ℕ). runs ≤ length history) home × Each (λ (run : Run). run.runs ≤ length history) out

@@ -1,3 +1,4 @@
+pub mod Answers
 pub mod Features
 pub mod Fits
 pub mod Holds

@@ -1,5 +1,5 @@
 -- What contracts see of a core, a ticket, a flight and a landed value.
-use Rattle.std.specs.Prelude.{ℕ, Bool, List, [], ◌∷◌, map, Option, None, Some}
+use Rattle.std.specs.Prelude.{ℕ, Bool, List, [], ◌∷◌, map, Option, None, Some, ◌≡◌}
 use Rattle.std.specs.Global.{Global}
 use Rattle.std.specs.declared.sync.Arc.{Arc}
 use Rattle.wc_model.specs.declared.entries.Entry.{Entry}
@@ -36,6 +36,9 @@ pub record KnownLanded (V : Type 0) : Type 0 where
   pub runs : ℕ
   pub gave : Option V
 
+abbrev pub landed_of : {V : Type 0} → KnownTicket V → ℕ → ℕ → ℕ → Option V → KnownLanded V
+landed_of t kind stamp runs gave = record { ticket = t; kind = kind; stamp = stamp; runs = runs; gave = gave }
+
 abbrev pub ask_of : {V : Type 0} → KnownTicket V → Ask
 ask_of t = record { name = t.name; at = t.at; kinds = map (λ h. h.0) t.had; memory = t.memory }
 
@@ -47,3 +50,19 @@ held (Some a) = (11, a.value) ∷ []
 abbrev pub value_of : {V : Type 0} → Option (Arc V Global) → Option V
 value_of None = None
 value_of (Some a) = Some a.value
+
+-- What a run gave, and that the further copy is the same value.
+abbrev pub given : {V : Type 0} → Option (Arc V Global × Arc V Global) → Option V
+given None = None
+given (Some p) = Some p.0.value
+
+abbrev pub AreCopies : {V : Type 0} → Option (Arc V Global × Arc V Global) → Type 0
+AreCopies None = Unit {0}
+AreCopies (Some p) = p.1.value ≡ p.0.value
+
+-- Two tickets of one ask.
+pub record SameAsk {V : Type 0} (a b : KnownTicket V) : Type 0 where
+  pub session : b.session ≡ a.session
+  pub name : b.name ≡ a.name
+  pub at : b.at ≡ a.at
+  pub inputs : b.inputs ≡ a.inputs

@@ -1,11 +1,13 @@
 -- A legal history grows by one entry at a time.
-use Rattle.std.proofs.Common.{◌≡◌, ℕ, ◌+◌, ◌≤◌, Bool, true, List, [], ◌∷◌, ◌++◌, length, take, drop, map, Option, None, Some, refl, sym, ap, ◌∙◌, append_assoc, arith, length-append, IsSome, subst, suc}
+use Rattle.std.proofs.Common.{◌≡◌, ℕ, ◌+◌, ◌≤◌, Bool, true, List, [], ◌∷◌, ◌++◌, length, take, drop, map, Option, None, Some, refl, sym, ap, ◌∙◌, append_assoc, arith, length-append, IsSome, subst, suc, if◌then◌else◌}
 use Rattle.std.proofs.lemmas.List.{drop-append-le, take-append-le, append-nil, length-take}
 use Rattle.wc_model.specs.declared.elf_image.Image.{Image}
 use Rattle.wc_model.specs.declared.entries.Entry.{Entry}
 use Rattle.wc_model.specs.declared.flow_facts.Fact.{Fact}
 use Rattle.wc_model.specs.declared.inputs.Edit.{Edit}
-use Rattle.wc_model.specs.Edits.{edit_of, edits_of}
+use Rattle.wc_model.specs.declared.kinds.Part.{Part}
+use Rattle.wc_model.specs.Closures.{touches_any, last_touch}
+use Rattle.wc_model.specs.Edits.{Setting, edit_of, edits_of, edited, all_edited}
 use Rattle.wc_model.specs.History.{Opening, State, Chain, IsRight, EachRight, IsLegal, step, stepped, replay, state_after, opened, opening_entries, fact_entries, start}
 
 pub replay-append : (o : Opening) (st : Option State) (es fs : List Entry) → replay o st (es ++ fs) ≡ replay o (replay o st es) fs
@@ -63,3 +65,18 @@ kept_snoc chain o history st new e kept next right edits =
       right = right_snoc chain o.image [] history e kept.right right;
       edits = edits ∙ ap (λ l. l ++ edit_of e) kept.edits ∙ sym (edits_of-snoc history e);
     }
+
+-- The inputs and the stamp after some edits and some more.
+pub all_edited-append : (count : ℕ) (s : Setting) (es fs : List Edit) → all_edited count s (es ++ fs) ≡ all_edited (count + length es) (all_edited count s es) fs
+all_edited-append count s [] fs = let same : count ≡ count + 0 = omega arith in ap (λ n. all_edited n s fs) same
+all_edited-append count s (e ∷ es) fs =
+    let same : count + 1 + length es ≡ count + suc (length es) = omega arith in
+    all_edited-append (count + 1) (edited (count + 1) s e) es fs ∙ ap (λ n. all_edited n (all_edited (count + 1) (edited (count + 1) s e) es) fs) same
+
+pub last_touch-append : (parts : List Part) (stamp count : ℕ) (s : Setting) (es fs : List Edit) → last_touch parts stamp count s (es ++ fs) ≡ last_touch parts (last_touch parts stamp count s es) (count + length es) (all_edited count s es) fs
+last_touch-append parts stamp count s [] fs = let same : count ≡ count + 0 = omega arith in ap (λ n. last_touch parts stamp n s fs) same
+last_touch-append parts stamp count s (e ∷ es) fs =
+    let same : count + 1 + length es ≡ count + suc (length es) = omega arith in
+    let next : ℕ = if touches_any parts s e then count + 1 else stamp in
+    last_touch-append parts next (count + 1) (edited (count + 1) s e) es fs
+      ∙ ap (λ n. last_touch parts (last_touch parts next (count + 1) (edited (count + 1) s e) es) n (all_edited (count + 1) (edited (count + 1) s e) es) fs) same

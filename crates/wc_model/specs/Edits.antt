@@ -44,8 +44,10 @@ abbrev pub fact_numbered : ℕ → List (ℕ × Fact) → Option Fact
 fact_numbered number [] = None
 fact_numbered number (f ∷ fs) = if f.0 == number then Some f.1 else fact_numbered number fs
 
+-- Numbers are counts of edits, so no two live facts have the same one.
 abbrev pub without_number : ℕ → List (ℕ × Fact) → List (ℕ × Fact)
-without_number number facts = filter (λ f. not (f.0 == number)) facts
+without_number number [] = []
+without_number number (f ∷ fs) = if f.0 == number then fs else f ∷ without_number number fs
 
 -- The inputs after the edit that is counted `count`.
 abbrev pub edited : ℕ → Setting → Edit → Setting

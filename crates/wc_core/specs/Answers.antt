@@ -1,0 +1,115 @@
+-- What the calls of a core answer.
+use Rattle.std.specs.Prelude.{ℕ, ◌+◌, Bool, true, false, List, [], ◌∷◌, ◌++◌, length, Option, None, Some, ◌≡◌, ◌≢◌, is_none}
+use Rattle.wc_model.specs.declared.entries.Entry.{Entry}
+use Rattle.wc_model.specs.declared.entries.Entry.TheVariants.{Edit as EditEntry, NoFact, Pin, Start, Finish, Answer, List as ListEntry}
+use Rattle.wc_model.specs.declared.entries.End.{End}
+use Rattle.wc_model.specs.declared.entries.End.TheVariants.{Memory as MemoryEnd}
+use Rattle.wc_model.specs.declared.entries.Asked.{Asked}
+use Rattle.wc_model.specs.declared.entries.Listing.{Listing}
+use Rattle.wc_model.specs.declared.flow_facts.Fact.{Fact}
+use Rattle.wc_model.specs.declared.flow_facts.Fact.TheVariants.{Checksum}
+use Rattle.wc_model.specs.declared.inputs.Edit.{Edit}
+use Rattle.wc_model.specs.declared.inputs.Edit.TheVariants.{Drop}
+use Rattle.wc_model.specs.Edits.{Setting, after, edits_of}
+use Rattle.wc_model.specs.History.{Opening, State, Chain, state_after, is_free, can_edit, is_live, home_of, bound_kind}
+use Rattle.wc_core.specs.declared.answers.Edited.{Edited}
+use Rattle.wc_core.specs.declared.answers.Edited.TheVariants.{Done, NoFact as NotLive}
+use Rattle.wc_core.specs.Fits.{FitsTicket, FitsFlight}
+use Rattle.wc_core.specs.Turns.{IsTurn, OutcomeIs, answers, starts, waits}
+use Rattle.wc_core.specs.Views.{Known, KnownTicket, KnownFlight, KnownLanded, SameAsk, ask_of}
+
+-- A checksum alone says nothing of what the program may do.
+abbrev pub is_plain_fact : Fact → Bool
+is_plain_fact (Checksum name value) = false
+is_plain_fact _ = true
+
+-- The session is one of the workspace and has no open ask.
+pub record LeavesFree (o : Opening) (history : List Entry) (session : ℕ) : Type 0 where
+  pub st : State
+  pub state : state_after o history ≡ Some st
+  pub free : is_free o st session ≡ true
+
+-- The number of accepted edits, and the inputs after all of them.
+abbrev pub edit_count : Known → ℕ
+edit_count k = length (edits_of k.history)
+
+abbrev pub inputs_now : Known → Setting
+inputs_now k = after k.opening.image (edit_count k) k.history
+
+abbrev pub adds : Known → Known → Entry → Type 0
+adds old new entry = new.history ≡ old.history ++ entry ∷ []
+
+-- An accepted edit is counted, and adds its entry.
+pub record IsAccepted (old new : Known) (session : ℕ) (edit : Edit) (count : ℕ) : Type 0 where
+  pub counted : count ≡ edit_count old + 1
+  pub allowed : can_edit edit (inputs_now old) ≡ true
+  pub entry : adds old new (EditEntry session count edit)
+
+-- A refused edit drops a fact that isn't live.
+pub record IsRefused (old new : Known) (session : ℕ) (edit : Edit) (at : ℕ) : Type 0 where
+  pub number : ℕ
+  pub drops : edit ≡ Drop number
+  pub dead : is_live number (inputs_now old) ≡ false
+  pub here : at ≡ edit_count old
+  pub entry : adds old new (NoFact session number at)
+
+pub record IsListed (old new : Known) (session : ℕ) (listing : Listing) : Type 0 where
+  pub here : listing.at ≡ edit_count old
+  pub facts : listing.facts ≡ (inputs_now old).facts
+  pub hardware : listing.hardware ≡ (inputs_now old).hardware
+  pub entry : adds old new (ListEntry session listing.at)
+
+abbrev pub EditIs : Known → Known → ℕ → Edit → Edited → Type 0
+EditIs old new session edit (Done count) = IsAccepted old new session edit count
+EditIs old new session edit (NotLive at) = IsRefused old new session edit at
+
+-- A pinned ask is open at the current count, with the current inputs, and has nothing yet.
+pub record IsPinned {V : Type 0} (old new : Known) (session : ℕ) (name : List ℕ) (t : KnownTicket V) : Type 0 where
+  pub session_is : t.session ≡ session
+  pub name_is : t.name ≡ name
+  pub here : t.at ≡ edit_count old
+  pub inputs_are : t.inputs ≡ inputs_now old
+  pub nothing : t.had ≡ []
+  pub quiet : t.memory ≡ false
+  pub entry : adds old new (Pin session name t.at)
+
+-- The answer is the ask's, on the inputs at its count.
+pub record IsDone {V : Type 0} (chain : Chain) (old new : Known) (t : KnownTicket V) (asked : Asked) : Type 0 where
+  pub turn : IsTurn old.opening old.history (ask_of t) answers
+  pub here : asked.at ≡ t.at
+  pub outcome : OutcomeIs chain t.memory (after old.opening.image t.at old.history) t.name asked.outcome
+  pub entry : adds old new (Answer t.session t.name t.at asked.outcome)
+  pub free : LeavesFree new.opening new.history t.session
+
+pub record IsStarted {V : Type 0} (feature : ℕ → Setting → List ℕ → V → Type 0) (old new : Known) (t : KnownTicket V) (f : KnownFlight V) : Type 0 where
+  pub turn : IsTurn old.opening old.history (ask_of t) (starts f.kind)
+  pub same : SameAsk t f.ticket
+  pub entry : adds old new (Start t.session f.kind t.name f.stamp)
+  pub fits : FitsFlight feature new.opening new.history f
+
+pub record IsBusy {V : Type 0} (old new : Known) (t back : KnownTicket V) (session : ℕ) : Type 0 where
+  pub turn : IsTurn old.opening old.history (ask_of t) (waits session)
+  pub back_is : back ≡ t
+  pub same : new ≡ old
+
+abbrev pub end_of : {V : Type 0} → Option V → End → Type 0
+end_of None end = end ≡ MemoryEnd
+end_of (Some _) end = end ≢ MemoryEnd
+
+pub record IsGiven {V : Type 0} (feature : ℕ → Setting → List ℕ → V → Type 0) (old new : Known) (l : KnownLanded V) (t : KnownTicket V) : Type 0 where
+  pub same : SameAsk l.ticket t
+  pub end : End
+  pub ends : end_of l.gave end
+  pub memory : t.memory ≡ is_none l.gave
+  pub entry : adds old new (Finish l.ticket.session l.kind l.ticket.name l.stamp end)
+  pub fits : FitsTicket feature new.opening new.history t
+
+-- No run is out.
+pub record RunsNothing (o : Opening) (history : List Entry) : Type 0 where
+  pub st : State
+  pub state : state_after o history ≡ Some st
+  pub none : st.out ≡ []
+
+-- The numbers of runs of the works of the bound, as the replay has them.
+abbrev pub AreRuns : Opening → List Entry → List ℕ → Type 0
+AreRuns o history runs = (st : State) → state_after o history ≡ Some st → runs ≡ home_of bound_kind st.home
