@@ -4,8 +4,6 @@ use Rattle.std.proofs.Math.Seq.{take-length}
 use Rattle.std.specs.Prelude.{Option, Some, None, IsSome, IfSome, codes}
 use Rattle.std.specs.Io.KnownBytes.{Appends}
 use Rattle.wc_base.specs.declared.faults.Fault.{Fault as FaultCode}
-use Rattle.wc_base.specs.declared.faults.Fault.TheVariants.{Unbuilt}
-use Rattle.wc_base.specs.declared.faults.UnbuiltWord.TheVariants.{Binary}
 use Rattle.wc_io.specs.Causes.{Rose}
 use Rattle.wc_io.specs.Rows.{Row, row_failed, failed_count}
 use Rattle.wc_io.specs.Reading.{AddsSourceRow}
@@ -14,8 +12,8 @@ use Rattle.wc_model.specs.declared.values.Outcome.{Outcome}
 use Rattle.wc_model.specs.declared.values.Outcome.TheVariants.{Bound, Fault, Memory}
 use Rattle.wcet.specs.declared.answers.Answer.{Answer}
 use Rattle.wcet.specs.declared.answers.Answer.TheVariants as answer
-use Rattle.wcet.specs.Answers.{line_of, outcome_line, refusal, status_of, unwritten, Finishes}
-use Rattle.wcet.specs.BoundCall.{Explains, Prints, IsBadBinary, Analyses, Analysed, IsTold, IsReadable, IsUnreadable}
+use Rattle.wcet.specs.Answers.{line_of, outcome_line, status_of, unwritten, Finishes}
+use Rattle.wcet.specs.BoundCall.{Explains, Prints, IsBadBinary, Analyses, Analysed, IsTold, IsReadable, Refuses, IsBinaryFault}
 use Rattle.wcet.specs.Words.{IsBoundCall}
 
 failed_snoc : (rows : List Row) (path : List ℕ) → failed_count false rows < failed_count false (rows ++ row_failed path false true ∷ [])
@@ -29,6 +27,11 @@ whole old new text appended = (length text, omega arith, subst (λ (t : List ℕ
 -- the same where nothing is told of the file
 same_file : (words : List (List ℕ)) (binary name other label : List ℕ) → IsBoundCall words binary name → IsBoundCall words other label → other ≡ binary
 same_file words binary name other label a b = let e = sym b.form ∙ a.form in cc
+
+-- a binary with a fault is bad
+fault_bad : (bytes : List ℕ) (fault : FaultCode) → IsBinaryFault bytes fault → IsBadBinary bytes
+fault_bad bytes fault (inl long) = inl long.0
+fault_bad bytes fault (inr check) = inr (subst IsSome (sym check.1) refl)
 
 -- a binary that was analysed isn't bad
 analysed_good : (bytes name : List ℕ) (outcome : Outcome) → length bytes ≤ 16777216 → Analyses bytes name outcome → IsBadBinary bytes → ⊥
@@ -58,19 +61,12 @@ module _ (words : List (List ℕ)) (files : List ℕ → Option (List ℕ)) (bin
   read_line (answer.Analysed Memory) e f z = absurd (elim f [ inl t ↦ omega (arith, t.0) | inr t ↦ omega (arith, t.0) ])
   read_line a e f z = absurd (elim f [ inl t ↦ omega (arith, t.0) | inr t ↦ omega (arith, t.0) ])
 
-  pub file : (a : Answer) → Explains (files binary) binary name old new a → Finishes name a held after before now status → status ≡ 6 → IsUnreadable words files
-  file (answer.Refused fault) e f z = record { binary = binary; name = name; call = call; bad = e.2 }
+  pub file : (a : Answer) → Explains (files binary) binary name old new a → Finishes name a held after before now status → status ≡ 6 → (fault : FaultCode) × Refuses words files (AppendsPart held after) fault
+  file (answer.Refused fault) e f z = (fault, record { binary = binary; name = name; call = call; bad = e.1; printed = elim f [ inl t ↦ whole held after _ t.1 | inr t ↦ t.1 ] })
   file (answer.Analysed (Bound _)) e f z = absurd (elim f [ inl t ↦ omega (arith, t.0) | inr t ↦ omega (arith, t.0) ])
   file (answer.Analysed (Fault _)) e f z = absurd (elim f [ inl t ↦ omega (arith, t.0) | inr t ↦ omega (arith, t.0) ])
   file (answer.Analysed Memory) e f z = absurd (elim f [ inl t ↦ omega (arith, t.0) | inr t ↦ omega (arith, t.0) ])
   file a e f z = absurd (elim f [ inl t ↦ omega (arith, t.0) | inr t ↦ omega (arith, t.0) ])
-
-  pub file_line : (a : Answer) → Explains (files binary) binary name old new a → Finishes name a held after before now status → status ≡ 6 → AppendsPart held after (refusal (Unbuilt Binary))
-  file_line (answer.Refused fault) e f z = subst (λ (x : FaultCode). AppendsPart held after (refusal x)) e.1 (elim f [ inl t ↦ whole held after _ t.1 | inr t ↦ t.1 ])
-  file_line (answer.Analysed (Bound _)) e f z = absurd (elim f [ inl t ↦ omega (arith, t.0) | inr t ↦ omega (arith, t.0) ])
-  file_line (answer.Analysed (Fault _)) e f z = absurd (elim f [ inl t ↦ omega (arith, t.0) | inr t ↦ omega (arith, t.0) ])
-  file_line (answer.Analysed Memory) e f z = absurd (elim f [ inl t ↦ omega (arith, t.0) | inr t ↦ omega (arith, t.0) ])
-  file_line a e f z = absurd (elim f [ inl t ↦ omega (arith, t.0) | inr t ↦ omega (arith, t.0) ])
 
   pub bad_file : (a : Answer) → Explains (files binary) binary name old new a → Finishes name a held after before now status → IsTold words files IsBadBinary → (status ≡ 6) ⊎ ((status ≡ 3) ⊎ (status ≡ 5))
   bad_file answer.Usage e f t = absurd e
@@ -102,7 +98,7 @@ module _ (words : List (List ℕ)) (files : List ℕ → Option (List ℕ)) (bin
   complete answer.Memory e f t same quiet = inr (inr (elim f [ inl s ↦ s.0 | inr s ↦ s.0 ]))
   complete (answer.Refused fault) e f t same quiet =
       let told : files binary ≡ Some t.bytes = ap files (sym (same_file words binary name t.binary t.name call t.call)) ∙ t.told in
-      absurd (t.holds (subst (λ (o : Option (List ℕ)). IfSome o IsBadBinary) told e.2))
+      absurd (t.holds (fault_bad t.bytes fault (subst (λ (o : Option (List ℕ)). IfSome o (λ bytes. IsBinaryFault bytes fault)) told e.1)))
   complete (answer.Analysed (Bound cycles)) e f t same quiet = inl (elim f [ inl s ↦ s.0 | inr s ↦ absurd (quiet s.2) ])
   complete (answer.Analysed (Fault fault)) e f t same quiet = inr (inl (elim f [ inl s ↦ s.0 | inr s ↦ absurd (quiet s.2) ]))
   complete (answer.Analysed Memory) e f t same quiet = inr (inr (elim f [ inl s ↦ s.0 | inr s ↦ s.0 ]))
@@ -117,6 +113,6 @@ pub explained : (told : Option (List ℕ)) (bytes binary name : List ℕ) (old n
 explained told bytes binary name old new same row answer.Usage known = absurd known
 explained told bytes binary name old new same row answer.ReadFault known = absurd known
 explained told bytes binary name old new same row answer.Memory known = inr row
-explained told bytes binary name old new same row (answer.Refused fault) known = (row, known.0, read_fact told bytes IsBadBinary same known.1)
+explained told bytes binary name old new same row (answer.Refused fault) known = (row, read_fact told bytes (λ b. IsBinaryFault b fault) same known)
 explained told bytes binary name old new same row (answer.Analysed outcome) known =
     (row, read_fact told bytes (λ b. length b ≤ 16777216) same known.0, read_fact told bytes (λ b. Analyses b name outcome) same known.1)

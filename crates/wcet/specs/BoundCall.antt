@@ -2,8 +2,8 @@
 use Rattle.std.specs.Prelude.{◌≡◌, ◌<◌, ◌≤◌, ℕ, List, [], ◌∷◌, ◌++◌, codes, length, Option, Some, IsSome, IfSome, ◌⊎◌, true, false}
 use Rattle.std.specs.Io.KnownBytes.{Appends}
 use Rattle.wc_base.specs.declared.faults.Fault.{Fault as FaultCode}
-use Rattle.wc_base.specs.declared.faults.Fault.TheVariants.{Unbuilt}
-use Rattle.wc_base.specs.declared.faults.UnbuiltWord.TheVariants.{Binary}
+use Rattle.wc_base.specs.declared.faults.Fault.TheVariants.{LongFile}
+use Rattle.wc_base.specs.declared.faults.FileWord.TheVariants.{Binary}
 use Rattle.wc_io.specs.Rows.{Row, row_failed}
 use Rattle.wc_io.specs.Reading.{AddsSourceRow}
 use Rattle.wc_io.specs.Writing.{AppendsPart}
@@ -15,10 +15,13 @@ use Rattle.wc_model.specs.Edits.{bare}
 use Rattle.wc_model.specs.Image.{image_fault, IsImageOf}
 use Rattle.wcet.specs.declared.answers.Answer.{Answer}
 use Rattle.wcet.specs.declared.answers.Answer.TheVariants as answer
-use Rattle.wcet.specs.Answers.{outcome_line}
+use Rattle.wcet.specs.Answers.{outcome_line, refusal}
 use Rattle.wcet.specs.Words.{IsBoundCall, IsFaultyCall}
 
--- a binary that isn't analysed yet: it is too long, or a check of the ELF file fails
+-- the fault of a binary: it is too long, or the first check of its image that fails
+abbrev pub IsBinaryFault : List ℕ → FaultCode → Type 0
+IsBinaryFault bytes fault = ((16777216 < length bytes) × (fault ≡ LongFile Binary)) ⊎ ((length bytes ≤ 16777216) × (image_fault bytes ≡ Some fault))
+
 abbrev pub IsBadBinary : List ℕ → Type 0
 IsBadBinary bytes = (16777216 < length bytes) ⊎ IsSome (image_fault bytes)
 
@@ -31,7 +34,7 @@ abbrev pub Analysed : List ℕ → List ℕ → Answer → Type 0
 Analysed bytes name answer.Usage = ⊥
 Analysed bytes name answer.ReadFault = ⊥
 Analysed bytes name answer.Memory = Unit {0}
-Analysed bytes name (answer.Refused fault) = (fault ≡ Unbuilt Binary) × IsBadBinary bytes
+Analysed bytes name (answer.Refused fault) = IsBinaryFault bytes fault
 Analysed bytes name (answer.Analysed outcome) = (length bytes ≤ 16777216) × Analyses bytes name outcome
 
 -- why each answer comes, from what is told of the file and the rows that the house has then
@@ -39,7 +42,7 @@ abbrev pub Explains : Option (List ℕ) → List ℕ → List ℕ → List Row �
 Explains told binary name old new answer.Usage = ⊥
 Explains told binary name old new answer.ReadFault = new ≡ old ++ row_failed binary false true ∷ []
 Explains told binary name old new answer.Memory = (new ≡ old) ⊎ AddsSourceRow binary old new
-Explains told binary name old new (answer.Refused fault) = AddsSourceRow binary old new × (fault ≡ Unbuilt Binary) × IfSome told IsBadBinary
+Explains told binary name old new (answer.Refused fault) = AddsSourceRow binary old new × IfSome told (λ bytes. IsBinaryFault bytes fault)
 Explains told binary name old new (answer.Analysed outcome) = AddsSourceRow binary old new × IfSome told (λ bytes. length bytes ≤ 16777216) × IfSome told (λ bytes. Analyses bytes name outcome)
 
 -- The clauses of the call.
@@ -64,12 +67,13 @@ pub record IsTold (words : List (List ℕ)) (files : List ℕ → Option (List �
 abbrev pub IsReadable : List (List ℕ) → (List ℕ → Option (List ℕ)) → Type 0
 IsReadable words files = IsTold words files (λ bytes. IsBadBinary bytes → ⊥)
 
--- the words name a binary that is bad where it is told
-pub record IsUnreadable (words : List (List ℕ)) (files : List ℕ → Option (List ℕ)) : Type 0 where
+-- the call names a binary that has the fault where it is told, and the refusal is printed in the way of `writes`
+pub record Refuses (words : List (List ℕ)) (files : List ℕ → Option (List ℕ)) (writes : List ℕ → Type 0) (fault : FaultCode) : Type 0 where
   pub binary : List ℕ
   pub name : List ℕ
   pub call : IsBoundCall words binary name
-  pub bad : IfSome (files binary) IsBadBinary
+  pub bad : IfSome (files binary) (λ bytes. IsBinaryFault bytes fault)
+  pub printed : writes (refusal fault)
 
 -- the house was asked for the binary, as a source, or had no memory to open it
 abbrev pub Opens : List (List ℕ) → List Row → List Row → ℕ → Type 0

@@ -1,7 +1,5 @@
 ghost use Rattle.std.specs.Prelude.{◌≡◌, ◌≢◌, ◌<◌, ◌≤◌, ◌↔◌, ◌⊎◌, ℕ, List, [], ◌++◌, codes, length, map, string_bytes, false, IfOk};
 ghost use Rattle.std.specs.Io.KnownBytes.{Appends};
-ghost use Rattle.wc_base.specs.declared.faults.Fault.TheVariants.{Unbuilt};
-ghost use Rattle.wc_base.specs.declared.faults.UnbuiltWord.TheVariants.{Binary};
 ghost use Rattle.wc_base.specs.declared.faults.Fault.{Fault as FaultCode};
 ghost use Rattle.wc_io.specs.Causes.{Rose};
 ghost use Rattle.wc_io.specs.Rows.{failed_count};
@@ -9,8 +7,7 @@ ghost use Rattle.wc_io.specs.Writing.{AppendsPart};
 ghost use Rattle.wc_model.specs.declared.values.Outcome.{Outcome as OutcomeOf};
 ghost use Rattle.wc_model.specs.Chain.{chain as chain_of};
 ghost use Rattle.wc_model.specs.Edits.{bare, default_hardware as default_hardware_of};
-ghost use Rattle.wcet.specs.Answers.{refusal};
-ghost use Rattle.wcet.specs.BoundCall.{Analysed, Explains, Prints, IsBadBinary, IsTold, IsReadable, IsUnreadable, Opens};
+ghost use Rattle.wcet.specs.BoundCall.{Analysed, Explains, Prints, IsBadBinary, IsTold, IsReadable, Refuses, Opens};
 ghost use Rattle.wcet.specs.Words.{IsFaultyCall};
 
 use crate::Status;
@@ -19,7 +16,7 @@ use crate::chain::chain;
 use crate::words::{BoundCall, bound_call};
 use std::alloc::{AllocError, Global};
 use std::thread::Threads;
-use wc_base::{Fault, Trouble, UnbuiltWord};
+use wc_base::{Fault, FileWord, Trouble};
 use wc_elf::read_image;
 use wc_io::{House, ReadFile, Sink, read_file};
 use wc_model::{Cycles, Hardware, Image, Outcome, Table};
@@ -67,7 +64,7 @@ fn analysed(alloc: Global, bytes: Vec<u8>, name: &str) -> Answer
             Ok(outcome) => Answer::Analysed(outcome),
             Err(AllocError) => Answer::Memory,
         },
-        Err(Trouble::Fault(_)) => Answer::Refused(Fault::Unbuilt(UnbuiltWord::Binary)),
+        Err(Trouble::Fault(fault)) => Answer::Refused(fault),
         Err(Trouble::Memory(_)) => Answer::Memory,
     }
 }
@@ -78,7 +75,7 @@ fn answer_to<H: House>(alloc: Global, call: &BoundCall, house: &mut H) -> Answer
 {
     match read_file(alloc, house, call.binary, MOST_BYTES) {
         Ok(bytes) => analysed(alloc, bytes, call.name),
-        Err(ReadFile::Long) => Answer::Refused(Fault::Unbuilt(UnbuiltWord::Binary)),
+        Err(ReadFile::Long) => Answer::Refused(Fault::LongFile(FileWord::Binary)),
         Err(ReadFile::Failed) => Answer::ReadFault,
         Err(ReadFile::Memory(_)) => Answer::Memory,
     }
@@ -111,10 +108,9 @@ pub fn bound_once<R: Threads + Sync, H: House, K: Sink>(
     // 5: want of memory, which may come at any time.
     ensures memory_line { result ≡ 5 → AppendsPart (K.held out.old) (K.held out.new) (codes "memory\n") }
 
-    // 6: exactly where the binary is bad.
-    ensures file { result ≡ 6 → IsUnreadable (map string_bytes words.now) (H.file house.old) }
+    // 6: exactly where the binary has a fault.
+    ensures file { result ≡ 6 → (fault : FaultCode) × Refuses (map string_bytes words.now) (H.file house.old) (AppendsPart (K.held out.old) (K.held out.new)) fault }
     ensures bad_file { IsTold (map string_bytes words.now) (H.file house.old) IsBadBinary → (result ≡ 6) ⊎ ((result ≡ 3) ⊎ (result ≡ 5)) }
-    ensures file_line { result ≡ 6 → AppendsPart (K.held out.old) (K.held out.new) (refusal (Unbuilt Binary)) }
 
     // With a readable binary and no fault of the outside the chain is answered.
     ensures complete { IsReadable (map string_bytes words.now) (H.file house.old) → failed_count false (H.opened house.new) ≡ failed_count false (H.opened house.old) → (Rose (K.faults out.old) (K.faults out.new) → ⊥) → (result ≡ 0) ⊎ ((result ≡ 1) ⊎ (result ≡ 5)) }

@@ -143,7 +143,7 @@ fn an_empty_binary_is_refused(rt: HostRuntime) -> Result<(), Fail> {
     let mut house = house_of(alloc, Vec::new(alloc), 0, &[])?;
     let (status, wrote) = call(&rt, alloc, "bound a.elf - - f", &mut house, &[])?;
     assert_eq!(rt; status, 6);
-    assert!(rt; wrote.as_slice() == b"refused 90 Unbuilt binary\n".as_slice());
+    assert!(rt; wrote.as_slice() == b"refused 1 Truncated offset 0\n".as_slice());
     Ok(())
 }
 

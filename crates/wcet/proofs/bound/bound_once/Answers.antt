@@ -1,4 +1,4 @@
-use Rattle.wcet.proofs.BoundAnswers.{bound, refused, read, read_line, file, file_line, bad_file, write_line, known, complete}
+use Rattle.wcet.proofs.BoundAnswers.{bound, refused, read, read_line, file, bad_file, write_line, known, complete}
 use Rattle.wcet.proofs.bound.bound_once.Goals as goal
 
 pub returns-in-Some-clause-bound : goal.returns-in-Some-clause-bound
@@ -13,8 +13,8 @@ returns-in-Some-clause-read g c = read _ (g.H.House.file c.args.house.now) _ _ c
 pub returns-in-Some-clause-read_line : goal.returns-in-Some-clause-read_line
 returns-in-Some-clause-read_line g c = read_line _ (g.H.House.file c.args.house.now) _ _ c.in-Some.ensures _ _ _ _ _ _ _ _ c.answer_to-answer.ensures.answer c.finish-in-Some.ensures
 
-pub returns-in-Some-clause-file_line : goal.returns-in-Some-clause-file_line
-returns-in-Some-clause-file_line g c = file_line _ (g.H.House.file c.args.house.now) _ _ c.in-Some.ensures _ _ _ _ _ _ _ _ c.answer_to-answer.ensures.answer c.finish-in-Some.ensures
+pub returns-in-Some-clause-file : goal.returns-in-Some-clause-file
+returns-in-Some-clause-file g c = file _ (g.H.House.file c.args.house.now) _ _ c.in-Some.ensures _ _ _ _ _ _ _ _ c.answer_to-answer.ensures.answer c.finish-in-Some.ensures
 
 pub returns-in-Some-clause-bad_file : goal.returns-in-Some-clause-bad_file
 returns-in-Some-clause-bad_file g c = bad_file _ (g.H.House.file c.args.house.now) _ _ c.in-Some.ensures _ _ _ _ _ _ _ _ c.answer_to-answer.ensures.answer c.finish-in-Some.ensures
