@@ -1,5 +1,5 @@
 -- What each status of the command `bound` tells.
-use Rattle.std.proofs.Common.{◌≡◌, ◌≢◌, ℕ, ◌<◌, ◌≤◌, ◌+◌, ◌^◌, ◌-◌, min, true, false, List, [], ◌∷◌, ◌++◌, length, refl, sym, ap, ◌∙◌, subst, ◌⊎◌, inl, inr, arith}
+use Rattle.std.proofs.Common.{◌≡◌, ℕ, ◌<◌, ◌≤◌, true, false, List, [], ◌∷◌, ◌++◌, length, refl, sym, ap, ◌∙◌, subst, ◌⊎◌, inl, inr, arith}
 use Rattle.std.proofs.Math.Seq.{take-length}
 use Rattle.std.specs.Prelude.{Option, Some, None, IsSome, IfSome, codes}
 use Rattle.std.specs.Io.KnownBytes.{Appends}
@@ -12,7 +12,7 @@ use Rattle.wc_model.specs.declared.values.Outcome.{Outcome}
 use Rattle.wc_model.specs.declared.values.Outcome.TheVariants.{Bound, Fault, Memory}
 use Rattle.wcet.specs.declared.answers.Answer.{Answer}
 use Rattle.wcet.specs.declared.answers.Answer.TheVariants as answer
-use Rattle.wcet.specs.Answers.{line_of, outcome_line, status_of, unwritten, Finishes}
+use Rattle.wcet.specs.Answers.{Finishes}
 use Rattle.wcet.specs.BoundCall.{Explains, Prints, IsBadBinary, Analyses, Analysed, IsTold, IsReadable, Refuses, IsBinaryFault}
 use Rattle.wcet.specs.Words.{IsBoundCall}
 

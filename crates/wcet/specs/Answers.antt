@@ -1,5 +1,5 @@
 -- What a top call answers: a line on the output and a status.
-use Rattle.std.specs.Prelude.{◌≡◌, ℕ, zero, suc, List, [], ◌∷◌, ◌++◌, codes, decimal, Option, ◌⊎◌}
+use Rattle.std.specs.Prelude.{◌≡◌, ℕ, zero, suc, List, ◌++◌, codes, decimal, Option, ◌⊎◌}
 use Rattle.std.specs.Io.KnownBytes.{Appends}
 use Rattle.wc_base.specs.declared.faults.Fault.{Fault as FaultCode}
 use Rattle.wc_base.specs.FaultTexts.{fault_text}

@@ -1,22 +1,19 @@
 -- The command `bound`: what is answered for which words and which file.
-use Rattle.std.specs.Prelude.{◌≡◌, ◌<◌, ◌≤◌, ℕ, List, [], ◌∷◌, ◌++◌, codes, length, Option, Some, IsSome, IfSome, ◌⊎◌, true, false}
-use Rattle.std.specs.Io.KnownBytes.{Appends}
+use Rattle.std.specs.Prelude.{◌≡◌, ◌<◌, ◌≤◌, ℕ, List, [], ◌∷◌, ◌++◌, length, Option, Some, IsSome, IfSome, ◌⊎◌, true, false}
 use Rattle.wc_base.specs.declared.faults.Fault.{Fault as FaultCode}
 use Rattle.wc_base.specs.declared.faults.Fault.TheVariants.{LongFile}
 use Rattle.wc_base.specs.declared.faults.FileWord.TheVariants.{Binary}
 use Rattle.wc_io.specs.Rows.{Row, row_failed}
 use Rattle.wc_io.specs.Reading.{AddsSourceRow}
-use Rattle.wc_io.specs.Writing.{AppendsPart}
 use Rattle.wc_model.specs.declared.elf_image.Image.{Image}
 use Rattle.wc_model.specs.declared.values.Outcome.{Outcome}
-use Rattle.wc_model.specs.declared.values.Outcome.TheVariants.{Bound, Fault}
 use Rattle.wc_model.specs.Chain.{chain}
 use Rattle.wc_model.specs.Edits.{bare}
 use Rattle.wc_model.specs.Image.{image_fault, IsImageOf}
 use Rattle.wcet.specs.declared.answers.Answer.{Answer}
 use Rattle.wcet.specs.declared.answers.Answer.TheVariants as answer
 use Rattle.wcet.specs.Answers.{outcome_line, refusal}
-use Rattle.wcet.specs.Words.{IsBoundCall, IsFaultyCall}
+use Rattle.wcet.specs.Words.{IsBoundCall}
 
 -- the fault of a binary: it is too long, or the first check of its image that fails
 abbrev pub IsBinaryFault : List ℕ → FaultCode → Type 0

@@ -1,4 +1,4 @@
-use Rattle.wcet.proofs.BoundAnswers.{bound, refused, read, read_line, file, bad_file, write_line, known, complete}
+use Rattle.wcet.proofs.BoundAnswers.{bound, refused, read, read_line, file, bad_file, write_line, complete}
 use Rattle.wcet.proofs.bound.bound_once.Goals as goal
 
 pub returns-in-Some-clause-bound : goal.returns-in-Some-clause-bound
