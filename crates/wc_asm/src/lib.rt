@@ -1,0 +1,7 @@
+//! The other way round: words of instructions, and ELF files of small programs, as tests and trials need
+//! them. What is written here is read back by the readers of words and of files.
+#![tactic(auto)]
+
+mod encode;
+
+pub use encode::word_of;
