@@ -3,5 +3,10 @@
 #![tactic(auto)]
 
 mod encode;
+mod layout;
+mod program;
+mod writer;
 
 pub use encode::word_of;
+pub use program::{Program, is_writable};
+pub use writer::write_elf;
