@@ -5,6 +5,8 @@
 mod encode;
 mod layout;
 mod program;
+#[cfg(test)]
+mod tests;
 mod writer;
 
 pub use encode::word_of;
