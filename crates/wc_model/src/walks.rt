@@ -9,3 +9,6 @@ pub use best::{Greatest, greatest_from};
 pub use greatest::greatest_costs;
 pub use places::{starts, steps_from};
 pub use search::{Order, order_nodes};
+
+#[cfg(test)]
+mod tests;
