@@ -79,4 +79,4 @@ last_touch-append parts stamp count s (e ∷ es) fs =
     let same : count + 1 + length es ≡ count + suc (length es) = omega arith in
     let next : ℕ = if touches_any parts s e then count + 1 else stamp in
     last_touch-append parts next (count + 1) (edited (count + 1) s e) es fs
-      ∙ ap (λ n. last_touch parts (last_touch parts next (count + 1) (edited (count + 1) s e) es) n (all_edited (count + 1) (edited (count + 1) s e) es) fs) same
+    ∙ ap (λ n. last_touch parts (last_touch parts next (count + 1) (edited (count + 1) s e) es) n (all_edited (count + 1) (edited (count + 1) s e) es) fs) same
