@@ -5,6 +5,7 @@ mod answers;
 mod asks;
 mod calls;
 mod changes;
+mod opening;
 mod shared;
 mod store;
 mod tickets;
