@@ -13,13 +13,14 @@ use Rattle.wc_model.specs.declared.inputs.Edit.TheVariants.{Add, Hardware as Tim
 use Rattle.wc_model.specs.declared.machine.Hardware.{Hardware}
 use Rattle.wc_model.specs.Closures.{touches_any, last_touch}
 use Rattle.wc_model.specs.Edits.{Setting, bare, edited, all_edited, edits_of, edit_of}
-use Rattle.wc_model.specs.History.{Opening, State, Chain, EachRight, IsLegal, opening_edits, opening_entries, fact_entries, state_after, opened, replay, start}
+use Rattle.wc_model.specs.History.{Opening, State, Run, Ask, Chain, EachRight, IsLegal, opening_edits, opening_entries, fact_entries, state_after, opened, replay, start}
 use Rattle.wc_model.proofs.Replays.{length-opening_entries}
 use Rattle.wc_core.specs.declared.store.Slot.{Slot}
-use Rattle.wc_core.specs.Answers.{LeavesFree}
+use Rattle.wc_core.specs.Answers.{LeavesFree, RunsNothing}
 use Rattle.wc_core.specs.Features.{Each}
-use Rattle.wc_core.specs.Holds.{all_parts, plain_opening, plain_state, numbered_from, stamp_from, is_plain_fact, IsCore}
-use Rattle.wc_core.proofs.Cores.{core_legal}
+use Rattle.wc_core.specs.Holds.{all_parts, plain_opening, plain_state, numbered_from, stamp_from, is_plain_fact, IsCore, IsTurnOf}
+use Rattle.wc_core.specs.Views.{Known}
+use Rattle.wc_core.proofs.Cores.{IsOne, core_legal, some_same}
 
 edits_of-facts : (count : ℕ) (facts : List Fact) → edits_of (fact_entries count facts) ≡ map Add facts
 edits_of-facts count [] = refl
@@ -103,3 +104,56 @@ all_ready kind_of P (w ∷ x ∷ ws) kinds each = cc
 pub all_known : {A : Type 0} (kind_of : A → ℕ) (P : A → Type 0) (works : List A) → Each (λ w. (kind_of w ≡ 11) × P w) works → Each P works
 all_known kind_of P [] each = tt
 all_known kind_of P (w ∷ ws) each = (each.0.1, all_known kind_of P ws each.1)
+
+pub opens_all : {V : Type 0} (chain : Chain) (feature : ℕ → Setting → List ℕ → V → Type 0) (image : Image) (hardware : Hardware) (facts : List Fact) (first room : ℕ) (h : List Entry) (inputs : Setting) (count stamp : ℕ) (slots : List (Slot V)) (home : List ℕ)
+    → first ≡ (if touches_any all_parts (bare image) (Timing hardware) then 1 else 0)
+    → length facts + 1 ≤ room
+    → h ≡ EditEntry 0 1 (Timing hardware) ∷ fact_entries 2 facts
+    → inputs ≡ record { image = image; facts = numbered_from 2 facts; hardware = hardware }
+    → count ≡ length facts + 1
+    → stamp ≡ stamp_from first 1 facts
+    → slots ≡ []
+    → home ≡ 0 ∷ []
+    → Opens chain feature (plain_opening inputs.image hardware facts) h inputs count stamp slots home room
+opens_all {V} chain feature image hardware facts first room h inputs count stamp slots home first_is within h_is inputs_are count_is stamp_is slots_are home_is =
+    let base = opens {V = V} chain feature image hardware facts first room first_is within in
+    let s : Setting = record { image = image; facts = numbered_from 2 facts; hardware = hardware } in
+    let o : Opening = plain_opening image hardware facts in
+    let A : List Entry → Type 0 = λ x. Opens {V = V} chain feature o x s (length facts + 1) (stamp_from first 1 facts) [] (0 ∷ []) room in
+    let B : ℕ → Type 0 = λ x. Opens {V = V} chain feature o h s x (stamp_from first 1 facts) [] (0 ∷ []) room in
+    let C : ℕ → Type 0 = λ x. Opens {V = V} chain feature o h s count x [] (0 ∷ []) room in
+    let D : List (Slot V) → Type 0 = λ x. Opens {V = V} chain feature o h s count stamp x (0 ∷ []) room in
+    let E : List ℕ → Type 0 = λ x. Opens {V = V} chain feature o h s count stamp slots x room in
+    let F : Setting → Type 0 = λ x. Opens {V = V} chain feature (plain_opening x.image hardware facts) h x count stamp slots home room in
+    subst F (sym inputs_are) (subst E (sym home_is) (subst D (sym slots_are) (subst C (sym stamp_is) (subst B (sym count_is) (subst A (sym h_is) base)))))
+
+pub one_work : {A : Type 0} (f : A → ℕ) (xs : List A) (n : ℕ) → map f xs ≡ n ∷ [] → length xs ≡ 1
+one_work f [] n is = cc
+one_work f (x ∷ []) n is = refl
+one_work f (x ∷ y ∷ ys) n is = cc
+
+closed_case : {V : Type 0} (count stamp : ℕ) (slots : List (Slot V)) (ask : Option Ask) (home : List ℕ) (out : List Run) → out ≡ [] → IsTurnOf count stamp slots ask home out → IsOne home
+closed_case count stamp slots None (r ∷ []) out none turn = (r, refl)
+closed_case count stamp slots (Some a) (r ∷ []) out none turn = (r, refl)
+closed_case count stamp slots None [] out none turn = absurd turn
+closed_case count stamp slots (Some a) [] out none turn = let there = sym none ∙ turn.4.1 in cc
+closed_case count stamp slots None (x ∷ y ∷ z) out none turn = absurd turn
+closed_case count stamp slots (Some a) (x ∷ y ∷ z) out none turn = absurd turn
+
+one_kind : {A : Type 0} (kind_of runs_of : A → ℕ) (P : A → Type 0) (works : List A) → IsOne (map runs_of works) → Each (λ w. (kind_of w ≡ 11) × P w) works → map kind_of works ≡ 11 ∷ []
+one_kind kind_of runs_of P [] one each = let none = one.1 in cc
+one_kind kind_of runs_of P (w ∷ []) one each = ap (λ k. k ∷ []) each.0.0
+one_kind kind_of runs_of P (w ∷ x ∷ ws) one each = let two = one.1 in cc
+
+pub closed_all : {V A : Type 0} (chain : Chain) (feature : ℕ → Setting → List ℕ → V → Type 0) (image : Image) (hardware : Hardware) (facts : List Fact) (h : List Entry) (inputs : Setting) (count stamp : ℕ) (slots : List (Slot V)) (room : ℕ) (k : Known) (kind_of runs_of : A → ℕ) (P : A → Type 0) (works : List A)
+    → record { opening = plain_opening image hardware facts; history = h } ≡ k
+    → IsCore chain (feature 11) (plain_opening image hardware facts) h inputs count stamp slots (map runs_of works) room
+    → Each (λ w. (kind_of w ≡ 11) × P w) works
+    → RunsNothing k.opening k.history
+    → map kind_of works ≡ 11 ∷ []
+closed_all chain feature image hardware facts h inputs count stamp slots room k kind_of runs_of P works view core each nothing =
+    let N : Known → Type 0 = λ v. RunsNothing v.opening v.history in
+    let rests = subst N (sym view) nothing in
+    let same = some_same _ _ (sym core.state ∙ rests.state) in
+    let out : core.out ≡ [] = ap (λ (s : State). s.out) same ∙ rests.none in
+    one_kind kind_of runs_of P works (closed_case count stamp slots core.ask (map runs_of works) core.out out core.turn) each

@@ -1,4 +1,4 @@
-ghost use Rattle.std.specs.Prelude.{ℕ, ◌≡◌, ◌∷◌, [], ◌+◌, ◌<◌, ◌^◌, IfOk, length, map};
+ghost use Rattle.std.specs.Prelude.{ℕ, ◌≡◌, ◌∷◌, [], ◌+◌, ◌<◌, ◌^◌, IfOk, length, map, if◌then◌else◌};
 ghost use Rattle.wc_model.specs.declared.elf_image.Image.{Image};
 ghost use Rattle.wc_model.specs.Closures.{touches_any};
 ghost use Rattle.wc_model.specs.Edits.{bare, same_cycles};
@@ -43,6 +43,13 @@ fn is_changed(hardware: &Hardware) -> bool
         None => !has_default_cycles(&hardware.cycles),
         Some(_) => true,
     }
+}
+
+// The stamp after the opening hardware, which is edit 1.
+fn first_stamp(hardware: &Hardware) -> u64
+    ensures { (image : Image) → result ≡ (if touches_any all_parts (bare image) (Edit.Hardware hardware.now) then 1 else 0) }
+{
+    if is_changed(hardware) { 1 } else { 0 }
 }
 
 fn opening_history(alloc: Global, hardware: &Hardware, facts: &[Fact]) -> Result<Vec<Entry>, AllocError>
@@ -119,7 +126,7 @@ impl<W: Work> Core<W> {
     {
         let history = opening_history(alloc, &hardware, facts.as_slice())?;
         let live = numbered(alloc, facts.as_slice())?;
-        let stamp = opening_stamp(u64::from(is_changed(&hardware)), facts.as_slice());
+        let stamp = opening_stamp(first_stamp(&hardware), facts.as_slice());
         let count = facts.len() as u64 + 1;
         let slots = Vec::with_capacity(alloc, ROWS)?;
         let inputs = Inputs {
