@@ -98,8 +98,8 @@ pub inputs_grow : (image : Image) (h : List Entry) (session count n : ℕ) (e : 
 inputs_grow image h session count n e same =
     let next : n + 1 ≡ 0 + length (edits_of h) + 1 = omega arith in
     ap (λ k. edited k (all_edited 0 (bare image) (edits_of h)) e) next
-      ∙ sym (all_edited-append 0 (bare image) (edits_of h) (e ∷ []))
-      ∙ ap (λ es. all_edited 0 (bare image) es) (sym (edits_of-snoc h (EditEntry session count e)))
+    ∙ sym (all_edited-append 0 (bare image) (edits_of h) (e ∷ []))
+    ∙ ap (λ es. all_edited 0 (bare image) es) (sym (edits_of-snoc h (EditEntry session count e)))
 
 stamp_if : (touched : Bool) (count stamp : ℕ) → stamp_after touched count stamp ≡ (if touched then count else stamp)
 stamp_if true count stamp = refl
@@ -111,10 +111,10 @@ stamp_grows image h session count n stamp e same is =
     let next : n + 1 ≡ 0 + length (edits_of h) + 1 = omega arith in
     let touched : Bool = touches_any all_parts (all_edited 0 (bare image) (edits_of h)) e in
     stamp_if touched (n + 1) stamp
-      ∙ ap (λ k. if touched then k else stamp) next
-      ∙ ap (λ k. if touched then 0 + length (edits_of h) + 1 else k) is
-      ∙ sym (last_touch-append all_parts 0 0 (bare image) (edits_of h) (e ∷ []))
-      ∙ ap (λ es. last_touch all_parts 0 0 (bare image) es) (sym (edits_of-snoc h (EditEntry session count e)))
+    ∙ ap (λ k. if touched then k else stamp) next
+    ∙ ap (λ k. if touched then 0 + length (edits_of h) + 1 else k) is
+    ∙ sym (last_touch-append all_parts 0 0 (bare image) (edits_of h) (e ∷ []))
+    ∙ ap (λ es. last_touch all_parts 0 0 (bare image) es) (sym (edits_of-snoc h (EditEntry session count e)))
 
 abbrev pub IsStable : {V : Type 0} → (Setting → List ℕ → V → Type 0) → Type 0
 IsStable {V} feature = (a b : Setting) (name : List ℕ) (v : V) → AgreeOnAll a b all_parts → feature a name v → feature b name v
@@ -152,8 +152,8 @@ pub core_edit : {V : Type 0} (chain : Chain) (feature : Setting → List ℕ →
     → can_edit e inputs ≡ true
     → length h + 1 ≤ more
     → let touched : Bool = touches_any all_parts inputs e in
-      IsCore chain feature (plain_opening image hardware facts) (h ++ EditEntry 1 (count + 1) e ∷ []) (edited (count + 1) inputs e) (count + 1) (stamp_after touched (count + 1) stamp) (slots_after touched slots) home more
-        × LeavesFree (plain_opening image hardware facts) (h ++ EditEntry 1 (count + 1) e ∷ []) 1
+    IsCore chain feature (plain_opening image hardware facts) (h ++ EditEntry 1 (count + 1) e ∷ []) (edited (count + 1) inputs e) (count + 1) (stamp_after touched (count + 1) stamp) (slots_after touched slots) home more
+    × LeavesFree (plain_opening image hardware facts) (h ++ EditEntry 1 (count + 1) e ∷ []) 1
 core_edit chain feature image hardware facts h inputs count stamp slots home room more e stable core leaves can grows =
     let o : Opening = plain_opening image hardware facts in
     let free = core_free chain feature image hardware facts h inputs count stamp slots home room 1 core leaves in
@@ -164,24 +164,26 @@ core_edit chain feature image hardware facts h inputs count stamp slots home roo
     let new_stamp : ℕ = stamp_after touched (count + 1) stamp in
     let step_is = step_edit image hardware facts (edits_of h) stamp (count + 1) slots home e next (ap (can_edit e) (sym core.inputs_are) ∙ can) in
     let stepped : step o (plain_state (edits_of h) (map (row_of stamp) slots) home [] None) entry ≡ Some (plain_state (edits_of h ++ e ∷ []) (map (row_of new_stamp) (slots_after touched slots)) home [] None) =
-      step_is ∙ ap (λ b. Some (plain_state (edits_of h ++ e ∷ []) (map (row_of (stamp_after b (count + 1) stamp)) (slots_after b slots)) home [] None)) (sym is_touched) in
-    let kept = grown chain o h entry _ _ home home [] [] None None _ free.1 stepped refl tt in
-    (record {
-      ask = None;
-      out = [];
-      begins = kept.begins;
-      state = kept.state;
-      right = kept.right;
-      inputs_are = ap (λ s. edited (count + 1) s e) core.inputs_are ∙ inputs_grow image h 1 (count + 1) count e core.count_is;
-      count_is = next ∙ sym (length-append (edits_of h) (e ∷ [])) ∙ ap length (sym (edits_of-snoc h entry));
-      stamp_is = ap (λ b. stamp_after b (count + 1) stamp) is_touched ∙ stamp_grows image h 1 (count + 1) count stamp e core.count_is core.stamp_is;
-      features = carried feature inputs (edited (count + 1) inputs e) touched slots stable (λ is. agree_untouched (count + 1) inputs e all_parts is) core.features;
-      few = rw (length-slots_after touched slots) core.few;
-      turn = turn_free (count + 1) new_stamp (slots_after touched slots) home free.2;
-      within = omega (arith, grows, length-snoc h entry);
-      counted = omega (arith, core.counted, length-snoc h entry);
-      ran = (ran_more (length h) _ home (omega (arith, length-snoc h entry)) core.ran.0, tt)
-    }, record { st = _; state = kept.state; free = refl })
+    step_is ∙ ap (λ b. Some (plain_state (edits_of h ++ e ∷ []) (map (row_of (stamp_after b (count + 1) stamp)) (slots_after b slots)) home [] None)) (sym is_touched) in
+    let kept = grown chain o h entry _ _ home home [] [] None None _ free.1 stepped refl tt in (
+      record {
+        ask = None;
+        out = [];
+        begins = kept.begins;
+        state = kept.state;
+        right = kept.right;
+        inputs_are = ap (λ s. edited (count + 1) s e) core.inputs_are ∙ inputs_grow image h 1 (count + 1) count e core.count_is;
+        count_is = next ∙ sym (length-append (edits_of h) (e ∷ [])) ∙ ap length (sym (edits_of-snoc h entry));
+        stamp_is = ap (λ b. stamp_after b (count + 1) stamp) is_touched ∙ stamp_grows image h 1 (count + 1) count stamp e core.count_is core.stamp_is;
+        features = carried feature inputs (edited (count + 1) inputs e) touched slots stable (λ is. agree_untouched (count + 1) inputs e all_parts is) core.features;
+        few = rw (length-slots_after touched slots) core.few;
+        turn = turn_free (count + 1) new_stamp (slots_after touched slots) home free.2;
+        within = omega (arith, grows, length-snoc h entry);
+        counted = omega (arith, core.counted, length-snoc h entry);
+        ran = (ran_more (length h) _ home (omega (arith, length-snoc h entry)) core.ran.0, tt);
+      },
+      record { st = _; state = kept.state; free = refl },
+    )
 
 -- An entry that is no edit changes neither the inputs nor the stamps.
 edits_stay : (h : List Entry) (e : Entry) → edit_of e ≡ [] → edits_of (h ++ e ∷ []) ≡ edits_of h
@@ -214,7 +216,7 @@ rebuilt chain feature o h e inputs count stamp slots slots' home home' room more
       turn = turn;
       within = omega (arith, within, length-snoc h e);
       counted = omega (arith, core.counted, length-snoc h e);
-      ran = (ran_more (length h + 1) _ home' (omega (arith, length-snoc h e)) ran, flies_more (length h + 1) _ out' (omega (arith, length-snoc h e)) flies)
+      ran = (ran_more (length h + 1) _ home' (omega (arith, length-snoc h e)) ran, flies_more (length h + 1) _ out' (omega (arith, length-snoc h e)) flies);
     }
 
 pub core_list : {V : Type 0} (chain : Chain) (feature : Setting → List ℕ → V → Type 0) (image : Image) (hardware : Hardware) (facts : List Fact) (h : List Entry) (inputs : Setting) (count stamp : ℕ) (slots : List (Slot V)) (home : List ℕ) (room more : ℕ)
@@ -222,7 +224,7 @@ pub core_list : {V : Type 0} (chain : Chain) (feature : Setting → List ℕ →
     → LeavesFree (plain_opening image hardware facts) h 1
     → length h + 1 ≤ more
     → IsCore chain feature (plain_opening image hardware facts) (h ++ ListEntry 1 count ∷ []) inputs count stamp slots home more
-        × LeavesFree (plain_opening image hardware facts) (h ++ ListEntry 1 count ∷ []) 1
+    × LeavesFree (plain_opening image hardware facts) (h ++ ListEntry 1 count ∷ []) 1
 core_list chain feature image hardware facts h inputs count stamp slots home room more core leaves grows =
     let o : Opening = plain_opening image hardware facts in
     let free = core_free chain feature image hardware facts h inputs count stamp slots home room 1 core leaves in
@@ -235,7 +237,7 @@ pub core_nofact : {V : Type 0} (chain : Chain) (feature : Setting → List ℕ �
     → is_live number inputs ≡ false
     → length h + 1 ≤ more
     → IsCore chain feature (plain_opening image hardware facts) (h ++ NoFact 1 number count ∷ []) inputs count stamp slots home more
-        × LeavesFree (plain_opening image hardware facts) (h ++ NoFact 1 number count ∷ []) 1
+    × LeavesFree (plain_opening image hardware facts) (h ++ NoFact 1 number count ∷ []) 1
 core_nofact chain feature image hardware facts h inputs count stamp slots home room more number core leaves dead grows =
     let o : Opening = plain_opening image hardware facts in
     let free = core_free chain feature image hardware facts h inputs count stamp slots home room 1 core leaves in
@@ -257,7 +259,7 @@ pub core_pin : {V : Type 0} (chain : Chain) (feature : Setting → List ℕ → 
     → LeavesFree (plain_opening image hardware facts) h 1
     → length h + 4 ≤ more
     → IsCore chain feature (plain_opening image hardware facts) (h ++ Pin 1 name count ∷ []) inputs count stamp slots home more
-        × (state_after (plain_opening image hardware facts) (h ++ Pin 1 name count ∷ []) ≡ Some (plain_state (edits_of (h ++ Pin 1 name count ∷ [])) (map (row_of stamp) slots) home [] (Some (fresh_ask name count))))
+    × (state_after (plain_opening image hardware facts) (h ++ Pin 1 name count ∷ []) ≡ Some (plain_state (edits_of (h ++ Pin 1 name count ∷ [])) (map (row_of stamp) slots) home [] (Some (fresh_ask name count))))
 core_pin chain feature image hardware facts h inputs count stamp slots home room more name core leaves grows =
     let o : Opening = plain_opening image hardware facts in
     let free = core_free chain feature image hardware facts h inputs count stamp slots home room 1 core leaves in
@@ -291,7 +293,7 @@ core_room chain feature o h inputs count stamp slots home room more core grows =
       turn = core.turn;
       within = omega (arith, core.within);
       counted = core.counted;
-      ran = core.ran
+      ran = core.ran;
     }
 
 -- The inputs at the current count.

@@ -103,7 +103,7 @@ start_all chain feature image hardware facts h inputs count stamp slots room t l
       legal = three.legal;
       fits = three.fits;
       few = ran.0;
-      within = has_room chain o h inputs count stamp slots (map runs_of works) room t asked
+      within = has_room chain o h inputs count stamp slots (map runs_of works) room t asked;
     }
 
 -- What a bound tells.
@@ -135,8 +135,8 @@ turn_all chain feature image hardware facts h inputs count stamp slots home room
     let asked = core_asked chain feature image hardware facts h inputs count stamp slots home room t core fits' in
     let there = asked.inputs_are ∙ core_inputs_at chain (feature 11) _ h inputs count stamp slots home room core ∙ ap (λ n. after image n h) (sym asked.here) in
     subst M view (turn_case chain t.memory t.inputs (after image t.at h) t.name (is_reached t slots) r _ _
-      (λ missing. turn_starts chain feature image hardware facts h inputs count stamp slots home room t core asked missing)
-      (λ reached. turn_answers chain feature image hardware facts h inputs count stamp slots home room t core asked reached) there is)
+    (λ missing. turn_starts chain feature image hardware facts h inputs count stamp slots home room t core asked missing)
+    (λ reached. turn_answers chain feature image hardware facts h inputs count stamp slots home room t core asked reached) there is)
 
 pub features_all : {V : Type 0} (chain : Chain) (feature : ℕ → Setting → List ℕ → V → Type 0) (image : Image) (hardware : Hardware) (facts : List Fact) (h : List Entry) (inputs : Setting) (count stamp : ℕ) (slots : List (Slot V)) (home : List ℕ) (room : ℕ) (t : KnownTicket V) (k : Known)
     → record { opening = plain_opening image hardware facts; history = h } ≡ k
@@ -153,18 +153,18 @@ pub answer_entries : {V : Type 0} (entries h : List Entry) (session at : ℕ) (n
     → entries ≡ h ++ Answer t.session t.name t.at outcome ∷ []
 answer_entries entries h session at name outcome t left is session_is at_is name_is left_is =
     is
-      ∙ ap (λ s. h ++ Answer s name at outcome ∷ []) (session_is ∙ sym (ap (λ (x : KnownTicket _). x.session) left_is))
-      ∙ ap (λ n. h ++ Answer t.session n at outcome ∷ []) name_is
-      ∙ ap (λ a. h ++ Answer t.session t.name a outcome ∷ []) (at_is ∙ sym (ap (λ (x : KnownTicket _). x.at) left_is))
+    ∙ ap (λ s. h ++ Answer s name at outcome ∷ []) (session_is ∙ sym (ap (λ (x : KnownTicket _). x.session) left_is))
+    ∙ ap (λ n. h ++ Answer t.session n at outcome ∷ []) name_is
+    ∙ ap (λ a. h ++ Answer t.session t.name a outcome ∷ []) (at_is ∙ sym (ap (λ (x : KnownTicket _). x.at) left_is))
 
 pub start_entries : {V : Type 0} (entries h : List Entry) (session kind kind' stamp : ℕ) (name : List ℕ) (t left : KnownTicket V)
     → entries ≡ h ++ Start session kind name stamp ∷ [] → session ≡ left.session → kind ≡ kind' → name ≡ t.name → t ≡ record left { spare = left.spare + 1 }
     → entries ≡ h ++ Start t.session kind' t.name stamp ∷ []
 start_entries entries h session kind kind' stamp name t left is session_is kind_is name_is left_is =
     is
-      ∙ ap (λ s. h ++ Start s kind name stamp ∷ []) (session_is ∙ sym (ap (λ (x : KnownTicket _). x.session) left_is))
-      ∙ ap (λ n. h ++ Start t.session kind n stamp ∷ []) name_is
-      ∙ ap (λ k. h ++ Start t.session k t.name stamp ∷ []) kind_is
+    ∙ ap (λ s. h ++ Start s kind name stamp ∷ []) (session_is ∙ sym (ap (λ (x : KnownTicket _). x.session) left_is))
+    ∙ ap (λ n. h ++ Start t.session kind n stamp ∷ []) name_is
+    ∙ ap (λ k. h ++ Start t.session k t.name stamp ∷ []) kind_is
 
 pub not_reached : {V : Type 0} (memory stored : Bool) (had : List (ℕ × V)) → memory ≡ false → had ≡ [] → stored ≡ false → (memory || (has_kind bound_kind (map (λ x. x.0) had) || stored)) ≡ false
 not_reached memory stored had quiet none absent =

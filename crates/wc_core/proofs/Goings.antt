@@ -66,7 +66,7 @@ pub goes_edit : {V : Type 0} (chain : Chain) (feature : Setting → List ℕ →
     → can_edit e (inputs_now k) ≡ true
     → length h + 1 ≤ more
     → let touched : Bool = touches_any all_parts inputs e in
-      Goes chain feature (plain_opening image hardware facts) (h ++ EditEntry session (count + 1) e ∷ []) (edited (count + 1) inputs e) (count + 1) (stamp_after touched (count + 1) stamp) (slots_after touched slots) home more session
+    Goes chain feature (plain_opening image hardware facts) (h ++ EditEntry session (count + 1) e ∷ []) (edited (count + 1) inputs e) (count + 1) (stamp_after touched (count + 1) stamp) (slots_after touched slots) home more session
 goes_edit chain feature image hardware facts h inputs count stamp slots home room more session e k stable view core free can grows =
     let o : Opening = plain_opening image hardware facts in
     let touched : Bool = touches_any all_parts inputs e in

@@ -35,9 +35,9 @@ pub finish_entries : {V : Type 0} (entries h : List Entry) (session kind kind' s
     → entries ≡ h ++ Finish t.session kind' t.name stamp end ∷ []
 finish_entries entries h session kind kind' stamp name end t is session_is kind_is name_is =
     is
-      ∙ ap (λ s. h ++ Finish s kind name stamp end ∷ []) session_is
-      ∙ ap (λ n. h ++ Finish t.session kind n stamp end ∷ []) name_is
-      ∙ ap (λ k. h ++ Finish t.session k t.name stamp end ∷ []) kind_is
+    ∙ ap (λ s. h ++ Finish s kind name stamp end ∷ []) session_is
+    ∙ ap (λ n. h ++ Finish t.session kind n stamp end ∷ []) name_is
+    ∙ ap (λ k. h ++ Finish t.session k t.name stamp end ∷ []) kind_is
 
 -- What is known before anything is changed.
 pub record Away {V A : Type 0} (before room : ℕ) (t : KnownTicket V) (works : List A) (kind : ℕ) (few : ℕ) : Type 0 where
@@ -60,7 +60,7 @@ away_all chain feature image hardware facts h inputs count stamp slots room l k 
       nobody = map_none runs_of works flown.nobody;
       kind_is = ap (λ (r : Run). r.kind) flown.run_is;
       quiet = flown.quiet;
-      rows = core.few
+      rows = core.few;
     }
 
 pub lost_all : {V A : Type 0} (chain : Chain) (feature : ℕ → Setting → List ℕ → V → Type 0) (image : Image) (hardware : Hardware) (facts : List Fact) (h : List Entry) (inputs : Setting) (count stamp : ℕ) (slots : List (Slot V)) (room : ℕ) (t left : KnownTicket V) (k : Known) (entries : List Entry) (runs_of : A → ℕ) (works back : List A) (work : A) (kind own : ℕ)

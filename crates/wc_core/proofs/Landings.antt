@@ -45,7 +45,7 @@ flown_case : {V : Type 0} (chain : Chain) (o : Opening) (h : List Entry) (count 
     → ask ≡ Some own → own_run 1 out ≡ Some run → IsTurnOf count stamp slots ask home out → Kept chain o h (plain_state (edits_of h) rows home out ask)
     → length h + entries_needed ask home ≤ room → Each (λ (r : Run). r.runs ≤ length h) out
     → (run ≡ plain_run own.name stamp run.runs) × Kept chain o h (plain_state (edits_of h) rows [] (plain_run own.name stamp run.runs ∷ []) (Some own)) × (home ≡ [])
-        × (own.at ≡ count) × (has_kind bound_kind own.kinds ≡ false) × (own.memory ≡ false) × (has_value own.name slots ≡ false) × (length h + 2 ≤ room) × (run.runs ≤ length h)
+    × (own.at ≡ count) × (has_kind bound_kind own.kinds ≡ false) × (own.memory ≡ false) × (has_value own.name slots ≡ false) × (length h + 2 ≤ room) × (run.runs ≤ length h)
 flown_case chain o h count stamp room slots rows None home out own run is flies turn kept within ran = cc
 flown_case chain o h count stamp room slots rows (Some a) (runs ∷ []) out own run is flies turn kept within ran =
     let none = ap (own_run 1) (sym turn.0) ∙ flies in cc
@@ -59,8 +59,8 @@ flown_case chain o h count stamp room slots rows (Some a) [] out own run is flie
     let N : ℕ → Type 0 = λ n. Kept chain o h (plain_state (edits_of h) rows [] (plain_run a.name stamp n ∷ []) (Some a)) in
     let A : Ask → Type 0 = λ b. Kept chain o h (plain_state (edits_of h) rows [] (plain_run b.name stamp run.runs ∷ []) (Some b)) in
     let R : List Run → Type 0 = λ l. Each (λ (r : Run). r.runs ≤ length h) l in
-    let bound = subst R out_is ran in
-    (sym this ∙ ap (λ n. plain_run a.name stamp n) runs_are ∙ ap (λ (b : Ask). plain_run b.name stamp run.runs) same,
+    let bound = subst R out_is ran in (
+      sym this ∙ ap (λ n. plain_run a.name stamp n) runs_are ∙ ap (λ (b : Ask). plain_run b.name stamp run.runs) same,
       subst A same (subst N runs_are (subst K out_is kept)),
       refl,
       ap (λ (b : Ask). b.at) (sym same) ∙ turn.0,
@@ -68,7 +68,8 @@ flown_case chain o h count stamp room slots rows (Some a) [] out own run is flie
       ap (λ (b : Ask). b.memory) (sym same) ∙ turn.2,
       ap (λ (b : Ask). has_value b.name slots) (sym same) ∙ turn.3,
       within,
-      omega (arith, bound.0, runs_are))
+      omega (arith, bound.0, runs_are),
+    )
 flown_case chain o h count stamp room slots rows (Some a) (x ∷ y ∷ z) out own run is flies turn kept within ran = absurd turn
 
 pub core_flown : {V : Type 0} (chain : Chain) (feature : ℕ → Setting → List ℕ → V → Type 0) (image : Image) (hardware : Hardware) (facts : List Fact) (h : List Entry) (inputs : Setting) (count stamp : ℕ) (slots : List (Slot V)) (home : List ℕ) (room : ℕ) (l : KnownLanded V)
@@ -98,7 +99,7 @@ core_flown chain feature image hardware facts h inputs count stamp slots home ro
       absent = rest.6;
       inputs_are = fits.is_open.inputs ∙ ap (λ s. inputs_at o s t.at) same ∙ ap (λ n. after_edits image n (edits_of h)) rest.3 ∙ sym (core_inputs_at chain (feature 11) o h inputs count stamp slots home room core);
       within = rest.7;
-      ran = rest.8
+      ran = rest.8;
     }
 
 pub record Gives {V : Type 0} (chain : Chain) (feature : ℕ → Setting → List ℕ → V → Type 0) (o : Opening) (h : List Entry) (inputs : Setting) (count stamp : ℕ) (slots : List (Slot V)) (home : List ℕ) (room : ℕ) (t : KnownTicket V) : Type 0 where
@@ -121,9 +122,9 @@ core_lost chain feature image hardware facts h inputs count stamp slots home roo
     let run_is : run_of t l.kind l.stamp fits.runs ≡ plain_run t.name stamp fits.runs = flown.run_is in
     let entry : Entry = Finish 1 bound_kind t.name stamp Memory in
     let kept = grown chain o h entry _ _ [] ((fits.runs + 1) ∷ []) _ [] (Some (ask_of t)) (Some (ask_of (lost_ticket t 1 spare))) _ flown.kept
-      (step_memory image hardware facts (edits_of h) stamp fits.runs (map (row_of stamp) slots) (ask_of t)) (sym (append-nil (edits_of h))) tt in
+    (step_memory image hardware facts (edits_of h) stamp fits.runs (map (row_of stamp) slots) (ask_of t)) (sym (append-nil (edits_of h))) tt in
     let next = rebuilt chain (feature 11) o h entry inputs count stamp slots slots home ((fits.runs + 1) ∷ []) room room [] (Some (ask_of (lost_ticket t 1 spare))) core refl kept core.features core.few
-      (refl, flown.here) (omega (arith, flown.within)) (omega (arith, flown.ran), tt) tt in
+    (refl, flown.here) (omega (arith, flown.within)) (omega (arith, flown.ran), tt) tt in
     let given : Gives chain feature o (h ++ entry ∷ []) inputs count stamp slots ((fits.runs + 1) ∷ []) room (lost_ticket t 1 spare) = record {
       core = next;
       legal = core_legal chain (feature 11) o _ inputs count stamp slots _ room next;
@@ -133,11 +134,11 @@ core_lost chain feature image hardware facts h inputs count stamp slots home roo
         is_open = record {
           ask = refl;
           inputs = flown.inputs_are ∙ core_inputs_at chain (feature 11) o _ inputs count stamp slots _ room next ∙ ap (λ n. after_edits image n (edits_of (h ++ entry ∷ []))) (sym flown.here);
-          features = fits.is_open.features
+          features = fits.is_open.features;
         };
         rests = refl;
-        room = names
-      }
+        room = names;
+      };
     } in
     let S : ℕ → Type 0 = λ s. Gives chain feature o (h ++ Finish s bound_kind t.name stamp Memory ∷ []) inputs count stamp slots ((fits.runs + 1) ∷ []) room (lost_ticket t s spare) in
     let K : ℕ → Type 0 = λ k. Gives chain feature o (h ++ Finish t.session k t.name stamp Memory ∷ []) inputs count stamp slots ((fits.runs + 1) ∷ []) room (lost_ticket t t.session spare) in
@@ -219,7 +220,7 @@ core_kept chain feature image hardware facts h inputs count stamp slots home roo
     let new : Ask = ask_of (kept_ticket t 1 v spare) in
     let grew = ap (λ (hs : List (ℕ × _)). map (λ x. x.0) hs ++ bound_kind ∷ []) none in
     let step_is = step_kept image hardware facts (edits_of h) stamp fits.runs slots (ask_of t) value core.stamp_is flown.absent
-      ∙ ap (λ ks. Some (plain_state (edits_of h) (map (row_of stamp) (with_value t.name value slots)) ((fits.runs + 1) ∷ []) [] (Some (record (ask_of t) { kinds = ks })))) grew in
+    ∙ ap (λ ks. Some (plain_state (edits_of h) (map (row_of stamp) (with_value t.name value slots)) ((fits.runs + 1) ∷ []) [] (Some (record (ask_of t) { kinds = ks })))) grew in
     let kept = grown chain o h entry _ _ [] ((fits.runs + 1) ∷ []) _ [] (Some (ask_of t)) (Some new) _ flown.kept step_is (sym (append-nil (edits_of h))) tt in
     let K : ℕ → Type 0 = λ k. feature k t.inputs t.name value.value in
     let I : Setting → Type 0 = λ i. feature bound_kind i t.name value.value in
@@ -227,8 +228,8 @@ core_kept chain feature image hardware facts h inputs count stamp slots home roo
     let mine : feature bound_kind t.inputs t.name value.value = subst K kind_is gave in
     let needs : entries_needed (Some new) ((fits.runs + 1) ∷ []) ≡ 1 = ap (λ b. if b then 1 else 3) (settled_true t.memory) in
     let next = rebuilt chain (feature 11) o h entry inputs count stamp slots (with_value t.name value slots) home ((fits.runs + 1) ∷ []) room room [] (Some new) core refl kept
-      (value_features (feature 11 inputs) t.name value slots (has_slot t.name slots) (subst I flown.inputs_are mine) core.features) (value_length t.name value slots (has_slot t.name slots) core.few)
-      (refl, flown.here) (omega (arith, flown.within, needs)) (omega (arith, flown.ran), tt) tt in
+    (value_features (feature 11 inputs) t.name value slots (has_slot t.name slots) (subst I flown.inputs_are mine) core.features) (value_length t.name value slots (has_slot t.name slots) core.few)
+    (refl, flown.here) (omega (arith, flown.within, needs)) (omega (arith, flown.ran), tt) tt in
     let settled = settled_true t.memory in
     let given : Gives chain feature o (h ++ entry ∷ []) inputs count stamp (with_value t.name value slots) ((fits.runs + 1) ∷ []) room (kept_ticket t 1 v spare) = record {
       core = next;
@@ -239,11 +240,11 @@ core_kept chain feature image hardware facts h inputs count stamp slots home roo
         is_open = record {
           ask = refl;
           inputs = flown.inputs_are ∙ core_inputs_at chain (feature 11) o _ inputs count stamp (with_value t.name value slots) _ room next ∙ ap (λ n. after_edits image n (edits_of (h ++ entry ∷ []))) (sym flown.here);
-          features = (subst G (sym same) mine, tt)
+          features = (subst G (sym same) mine, tt);
         };
         rests = refl;
-        room = omega (arith, names, ap names_needed settled)
-      }
+        room = omega (arith, names, ap names_needed settled);
+      };
     } in
     let S : ℕ → Type 0 = λ s. Gives chain feature o (h ++ Finish s bound_kind t.name stamp KeptEnd ∷ []) inputs count stamp (with_value t.name value slots) ((fits.runs + 1) ∷ []) room (kept_ticket t s v spare) in
     let D : ℕ → Type 0 = λ k. Gives chain feature o (h ++ Finish t.session k t.name stamp KeptEnd ∷ []) inputs count stamp (with_value t.name value slots) ((fits.runs + 1) ∷ []) room (kept_ticket t t.session v spare) in

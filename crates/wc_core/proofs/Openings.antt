@@ -20,7 +20,7 @@ use Rattle.wc_core.specs.Answers.{LeavesFree, RunsNothing}
 use Rattle.wc_core.specs.Features.{Each}
 use Rattle.wc_core.specs.Holds.{all_parts, plain_opening, plain_state, numbered_from, stamp_from, is_plain_fact, IsCore, IsTurnOf}
 use Rattle.wc_core.specs.Views.{Known}
-use Rattle.wc_core.proofs.Cores.{IsOne, core_legal, some_same}
+use Rattle.wc_core.proofs.Cores.{IsOne, core_free, core_legal, some_same}
 
 edits_of-facts : (count : ℕ) (facts : List Fact) → edits_of (fact_entries count facts) ≡ map Add facts
 edits_of-facts count [] = refl
@@ -51,7 +51,7 @@ pub last_added : (stamp count : ℕ) (s : Setting) (facts : List Fact) → last_
 last_added stamp count s [] = refl
 last_added stamp count s (f ∷ fs) =
     ap (λ b. last_touch all_parts (if b then count + 1 else stamp) (count + 1) (edited (count + 1) s (Add f)) (map Add fs)) (touched_by s f)
-      ∙ last_added (if is_plain_fact f then count + 1 else stamp) (count + 1) (edited (count + 1) s (Add f)) fs
+    ∙ last_added (if is_plain_fact f then count + 1 else stamp) (count + 1) (edited (count + 1) s (Add f)) fs
 
 length-map : (facts : List Fact) → length (map Add facts) ≡ length facts
 length-map [] = refl
@@ -73,7 +73,7 @@ opens {V} chain feature image hardware facts first room first_is within =
     let edits : edits_of h ≡ Timing hardware ∷ map Add facts = ap (λ l. Timing hardware ∷ l) (edits_of-facts 2 facts) in
     let none : drop (opened o) h ≡ [] = ap (λ n. drop n h) (sym long) ∙ drop-length h in
     let state : state_after o h ≡ Some (plain_state (edits_of h) [] (0 ∷ []) [] None) =
-      ap (λ l. replay o (Some (start o)) l) none ∙ ap (λ es. Some (plain_state es [] (0 ∷ []) [] None)) (sym edits) in
+    ap (λ l. replay o (Some (start o)) l) none ∙ ap (λ es. Some (plain_state es [] (0 ∷ []) [] None)) (sym edits) in
     let core : IsCore {V = V} chain (feature 11) o h (record { image = image; facts = numbered_from 2 facts; hardware = hardware }) (length facts + 1) (stamp_from first 1 facts) [] (0 ∷ []) room = record {
       ask = None;
       out = [];
@@ -83,13 +83,13 @@ opens {V} chain feature image hardware facts first room first_is within =
       inputs_are = sym (ap (λ es. all_edited 0 (bare image) es) edits ∙ all_added 1 (record { image = image; facts = []; hardware = hardware }) facts);
       count_is = sym (ap length edits ∙ ap (λ n. suc n) (length-map facts) ∙ omega arith);
       stamp_is = ap (λ n. stamp_from n 1 facts) first_is
-        ∙ sym (ap (λ es. last_touch all_parts 0 0 (bare image) es) edits ∙ last_added (if touches_any all_parts (bare image) (Timing hardware) then 1 else 0) 1 (record { image = image; facts = []; hardware = hardware }) facts);
+          ∙ sym (ap (λ es. last_touch all_parts 0 0 (bare image) es) edits ∙ last_added (if touches_any all_parts (bare image) (Timing hardware) then 1 else 0) 1 (record { image = image; facts = []; hardware = hardware }) facts);
       features = tt;
       few = omega arith;
       turn = refl;
       within = omega (arith, long, within);
       counted = omega (arith, long);
-      ran = ((omega arith, tt), tt)
+      ran = ((omega arith, tt), tt);
     } in
     record { core = core; legal = core_legal chain (feature 11) o h _ _ _ [] (0 ∷ []) room core; free = record { st = _; state = state; free = refl } }
 
@@ -157,3 +157,13 @@ closed_all chain feature image hardware facts h inputs count stamp slots room k 
     let same = some_same _ _ (sym core.state ∙ rests.state) in
     let out : core.out ≡ [] = ap (λ (s : State). s.out) same ∙ rests.none in
     one_kind kind_of runs_of P works (closed_case count stamp slots core.ask (map runs_of works) core.out out core.turn) each
+
+pub rests_all : {V : Type 0} (chain : Chain) (feature : ℕ → Setting → List ℕ → V → Type 0) (image : Image) (hardware : Hardware) (facts : List Fact) (h : List Entry) (inputs : Setting) (count stamp : ℕ) (slots : List (Slot V)) (home : List ℕ) (room : ℕ) (k : Known)
+    → record { opening = plain_opening image hardware facts; history = h } ≡ k
+    → IsCore chain (feature 11) (plain_opening image hardware facts) h inputs count stamp slots home room
+    → LeavesFree k.opening k.history 1 → RunsNothing k.opening k.history
+rests_all chain feature image hardware facts h inputs count stamp slots home room k view core leaves =
+    let L : Known → Type 0 = λ v. LeavesFree v.opening v.history 1 in
+    let N : Known → Type 0 = λ v. RunsNothing v.opening v.history in
+    let free = core_free chain (feature 11) image hardware facts h inputs count stamp slots home room 1 core (subst L (sym view) leaves) in
+    subst N view (record { st = _; state = free.1.state; none = refl })

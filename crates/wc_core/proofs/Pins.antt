@@ -39,8 +39,8 @@ pins_one chain feature image hardware facts h inputs count stamp slots home room
         state = both.1;
         is_open = record { ask = refl; inputs = core_inputs_at chain (feature 11) o _ inputs count stamp slots home more both.0; features = tt };
         rests = refl;
-        room = names
-      }
+        room = names;
+      };
     }
 
 pub goes_pin : {V : Type 0} (chain : Chain) (feature : ℕ → Setting → List ℕ → V → Type 0) (image : Image) (hardware : Hardware) (facts : List Fact) (h : List Entry) (inputs : Setting) (count stamp : ℕ) (slots : List (Slot V)) (home : List ℕ) (room more session : ℕ) (name : List ℕ) (k : Known)

@@ -58,18 +58,18 @@ filled_case : {V : Type 0} (name : List ℕ) (value : Arc V Global) (slot d : Sl
     → ((j : ℕ) → place ≡ Some j → (j < length slots) × (has_slot name slots ≡ true) × (filled name value slots ≡ set slots j (record { name = (get_or slots j d).name; value = Some value })))
     → (if same then Some 0 else next_place place) ≡ Some k
     → (k < length (slot ∷ slots)) × ((same || has_slot name slots) ≡ true)
-        × ((if same then record slot { value = Some value } ∷ slots else slot ∷ filled name value slots) ≡ set (slot ∷ slots) k (record { name = (get_or (slot ∷ slots) k d).name; value = Some value }))
+    × ((if same then record slot { value = Some value } ∷ slots else slot ∷ filled name value slots) ≡ set (slot ∷ slots) k (record { name = (get_or (slot ∷ slots) k d).name; value = Some value }))
 filled_case name value slot d slots k true place rest found =
     let zero_is : 0 ≡ k = cc in
     let P : ℕ → Type 0 = λ n. (n < length (slot ∷ slots)) × (true ≡ true)
-        × ((record slot { value = Some value } ∷ slots) ≡ set (slot ∷ slots) n (record { name = (get_or (slot ∷ slots) n d).name; value = Some value })) in
+    × ((record slot { value = Some value } ∷ slots) ≡ set (slot ∷ slots) n (record { name = (get_or (slot ∷ slots) n d).name; value = Some value })) in
     subst P zero_is (omega arith, refl, refl)
 filled_case name value slot d slots k false None rest found = cc
 filled_case name value slot d slots k false (Some j) rest found =
     let later = rest j refl in
     let next_is : suc j ≡ k = add-one-sym j ∙ some_is (j + 1) k found in
     let P : ℕ → Type 0 = λ n. (n < length (slot ∷ slots)) × (has_slot name slots ≡ true)
-        × ((slot ∷ filled name value slots) ≡ set (slot ∷ slots) n (record { name = (get_or (slot ∷ slots) n d).name; value = Some value })) in
+    × ((slot ∷ filled name value slots) ≡ set (slot ∷ slots) n (record { name = (get_or (slot ∷ slots) n d).name; value = Some value })) in
     subst P next_is (omega (arith, later.0), later.1, ap (λ l. slot ∷ l) later.2)
 
 pub filled_at : {V : Type 0} (name : List ℕ) (value : Arc V Global) (slots : List (Slot V)) (d : Slot V) (k : ℕ) → slot_place name slots ≡ Some k

@@ -51,7 +51,7 @@ unfolding row_with
 rows_kept o st e stamp [] is = refl
 rows_kept o st e stamp (slot ∷ slots) is =
     ap (λ r. r ∷ map (untouched_keys o st e) (map (row_of stamp) slots)) (ap (row_with slot.name) (keys_kept (is_touched o st e) stamp (value_of slot.value) is))
-      ∙ ap (λ rs. row_of stamp slot ∷ rs) (rows_kept o st e stamp slots is)
+    ∙ ap (λ rs. row_of stamp slot ∷ rs) (rows_kept o st e stamp slots is)
 
 rows_gone : {V : Type 0} (o : Opening) (st : State) (e : Edit) (stamp count : ℕ) (slots : List (Slot V)) → is_touched o st e bound_kind ≡ true
     → map (untouched_keys o st e) (map (row_of stamp) slots) ≡ map (row_of count) (map emptied slots)
@@ -59,7 +59,7 @@ unfolding row_with
 rows_gone o st e stamp count [] is = refl
 rows_gone o st e stamp count (slot ∷ slots) is =
     ap (λ r. r ∷ map (untouched_keys o st e) (map (row_of stamp) slots)) (ap (row_with slot.name) (keys_gone (is_touched o st e) stamp (value_of slot.value) is))
-      ∙ ap (λ rs. row_of count (emptied slot) ∷ rs) (rows_gone o st e stamp count slots is)
+    ∙ ap (λ rs. row_of count (emptied slot) ∷ rs) (rows_gone o st e stamp count slots is)
 
 rows_after_edit : {V : Type 0} (o : Opening) (st : State) (e : Edit) (stamp count : ℕ) (slots : List (Slot V)) (touched : Bool) → is_touched o st e bound_kind ≡ touched
     → map (untouched_keys o st e) (map (row_of stamp) slots) ≡ map (row_of (stamp_after touched count stamp)) (slots_after touched slots)
@@ -73,15 +73,15 @@ pub step_edit : {V : Type 0} (image : Image) (hardware : Hardware) (facts : List
     → count ≡ length edits + 1
     → can_edit e (all_edited 0 (bare image) edits) ≡ true
     → let touched : Bool = touches_any all_parts (all_edited 0 (bare image) edits) e in
-      step (plain_opening image hardware facts) (plain_state edits (map (row_of stamp) slots) home [] None) (EditEntry 1 count e)
-        ≡ Some (plain_state (edits ++ e ∷ []) (map (row_of (stamp_after touched count stamp)) (slots_after touched slots)) home [] None)
+    step (plain_opening image hardware facts) (plain_state edits (map (row_of stamp) slots) home [] None) (EditEntry 1 count e)
+    ≡ Some (plain_state (edits ++ e ∷ []) (map (row_of (stamp_after touched count stamp)) (slots_after touched slots)) home [] None)
 unfolding with_rows
 step_edit image hardware facts edits stamp count slots home e next can =
     let o : Opening = plain_opening image hardware facts in
     let st : State = plain_state edits (map (row_of stamp) slots) home [] None in
     allow_true _ _ (and_true _ _ (same_number count (length edits + 1) next) (ap (λ s. can_edit e s) (all_of_take image edits) ∙ can))
-      ∙ ap (λ rows. Some (with_rows (edits ++ e ∷ []) home rows))
-          (rows_after_edit o st e stamp count slots (touches_any all_parts (all_edited 0 (bare image) edits) e) (ap (λ s. touches_any all_parts s e) (all_of_take image edits)))
+    ∙ ap (λ rows. Some (with_rows (edits ++ e ∷ []) home rows))
+    (rows_after_edit o st e stamp count slots (touches_any all_parts (all_edited 0 (bare image) edits) e) (ap (λ s. touches_any all_parts s e) (all_of_take image edits)))
 
 pub step_nofact : (image : Image) (hardware : Hardware) (facts : List Fact) (edits : List Edit) (rows : List Row) (home : List ℕ) (number at : ℕ)
     → at ≡ length edits
@@ -101,7 +101,7 @@ new_ask name at = record { name = name; at = at; kinds = []; memory = false }
 pub step_pin : (image : Image) (hardware : Hardware) (facts : List Fact) (edits : List Edit) (rows : List Row) (home : List ℕ) (name : List ℕ) (at : ℕ)
     → at ≡ length edits
     → step (plain_opening image hardware facts) (plain_state edits rows home [] None) (Pin 1 name at)
-        ≡ Some (plain_state edits rows home [] (Some (record { name = name; at = at; kinds = []; memory = false })))
+    ≡ Some (plain_state edits rows home [] (Some (record { name = name; at = at; kinds = []; memory = false })))
 unfolding new_ask
 step_pin image hardware facts edits rows home name at same =
     allow_true _ _ (same_number at (length edits) same) ∙ ap (λ n. Some (plain_state edits rows home [] (Some (new_ask name n)))) (sym same)
@@ -159,15 +159,15 @@ pub step_start : {V : Type 0} (image : Image) (hardware : Hardware) (facts : Lis
     → has_kind bound_kind ask.kinds ≡ false
     → has_value ask.name slots ≡ false
     → step (plain_opening image hardware facts) (plain_state edits (map (row_of stamp) slots) (runs ∷ []) [] (Some ask)) (Start 1 bound_kind ask.name stamp)
-        ≡ Some (plain_state edits (map (row_of stamp) slots) [] (record { session = 1; kind = bound_kind; name = ask.name; stamp = stamp; runs = runs } ∷ []) (Some ask))
+    ≡ Some (plain_state edits (map (row_of stamp) slots) [] (record { session = 1; kind = bound_kind; name = ask.name; stamp = stamp; runs = runs } ∷ []) (Some ask))
 unfolding started
 step_start image hardware facts edits stamp runs slots ask here same quiet lacks absent =
     let unstored = stored_is image edits stamp ask.at slots ask.name here same ∙ absent in
     let unreached = not_false _ (or_false _ _ lacks unstored) in
     if_true _ _ (and_true _ _ (and_true _ _ (and_true _ _ (and_true _ _ (and_true _ _ (and_true _ _ (and_true _ _ (and_true _ _ (same_name_refl ask.name) (not_false ask.memory quiet)) refl)
-      (same_number stamp _ (sym (stamp_here image edits stamp ask.at here same)))) refl) unreached) unreached) refl) refl)
-      ∙ ap (λ kinds. Some (started ask edits (map (row_of stamp) slots) (record { session = 1; kind = bound_kind; name = ask.name; stamp = stamp; runs = runs } ∷ []) (ask.kinds ++ kinds))) (none_taken (has_kind bound_kind ask.kinds) _ unstored)
-      ∙ ap (λ kinds. Some (started ask edits (map (row_of stamp) slots) (record { session = 1; kind = bound_kind; name = ask.name; stamp = stamp; runs = runs } ∷ []) kinds)) (append-nil ask.kinds)
+    (same_number stamp _ (sym (stamp_here image edits stamp ask.at here same)))) refl) unreached) unreached) refl) refl)
+    ∙ ap (λ kinds. Some (started ask edits (map (row_of stamp) slots) (record { session = 1; kind = bound_kind; name = ask.name; stamp = stamp; runs = runs } ∷ []) (ask.kinds ++ kinds))) (none_taken (has_kind bound_kind ask.kinds) _ unstored)
+    ∙ ap (λ kinds. Some (started ask edits (map (row_of stamp) slots) (record { session = 1; kind = bound_kind; name = ask.name; stamp = stamp; runs = runs } ∷ []) kinds)) (append-nil ask.kinds)
 
 -- A finish.
 
@@ -208,7 +208,7 @@ filled_rows : {V : Type 0} (name : List ℕ) (stamp : ℕ) (value : Arc V Global
 filled_rows name stamp value [] absent = refl
 filled_rows name stamp value (slot ∷ slots) absent =
     filled_row name stamp value slot slots (same_name slot.name name) refl (λ same. and_some (same_name slot.name name) _ same (or_left _ _ absent))
-      (filled_rows name stamp value slots (or_right (same_name slot.name name && is_some (value_of slot.value)) _ absent))
+    (filled_rows name stamp value slots (or_right (same_name slot.name name && is_some (value_of slot.value)) _ absent))
 
 length-rows : {V : Type 0} (stamp : ℕ) (slots : List (Slot V)) → length (map (row_of stamp) slots) ≡ length slots
 length-rows stamp [] = refl
@@ -229,7 +229,7 @@ snoc_rows stamp (s ∷ slots) slot = ap (λ rs. row_of stamp s ∷ rs) (snoc_row
 
 stored_case : {V : Type 0} (name : List ℕ) (stamp : ℕ) (value : Arc V Global) (slots : List (Slot V)) (there : Bool) → has_value name slots ≡ false
     → (if there then with_key name bound_kind stamp (map (row_of stamp) slots) else with_room (map (row_of stamp) slots) ++ row_with name ((bound_kind, stamp) ∷ []) ∷ [])
-        ≡ map (row_of stamp) (if there then filled name value slots else with_room slots ++ record { name = name; value = Some value } ∷ [])
+    ≡ map (row_of stamp) (if there then filled name value slots else with_room slots ++ record { name = name; value = Some value } ∷ [])
 unfolding row_with
 stored_case name stamp value slots true absent = filled_rows name stamp value slots absent
 stored_case name stamp value slots false absent =
@@ -240,7 +240,7 @@ pub stored_rows : {V : Type 0} (name : List ℕ) (stamp : ℕ) (value : Arc V Gl
 unfolding row_with
 stored_rows name stamp value slots absent =
     ap (λ b. if b then with_key name bound_kind stamp (map (row_of stamp) slots) else with_room (map (row_of stamp) slots) ++ row_with name ((bound_kind, stamp) ∷ []) ∷ []) (same_rows name slots stamp)
-      ∙ stored_case name stamp value slots (has_slot name slots) absent
+    ∙ stored_case name stamp value slots (has_slot name slots) absent
 
 finished : Ask → List Edit → List ℕ → List Row → State
 finished ask edits home rows = plain_state edits rows home [] (Some ask)
@@ -255,15 +255,15 @@ pub step_kept : {V : Type 0} (image : Image) (hardware : Hardware) (facts : List
     → stamp ≡ last_touch all_parts 0 0 (bare image) edits
     → has_value ask.name slots ≡ false
     → step (plain_opening image hardware facts) (plain_state edits (map (row_of stamp) slots) [] (record { session = 1; kind = bound_kind; name = ask.name; stamp = stamp; runs = runs } ∷ []) (Some ask)) (Finish 1 bound_kind ask.name stamp Kept)
-        ≡ Some (plain_state edits (map (row_of stamp) (with_value ask.name value slots)) ((runs + 1) ∷ []) [] (Some (record ask { kinds = ask.kinds ++ bound_kind ∷ [] })))
+    ≡ Some (plain_state edits (map (row_of stamp) (with_value ask.name value slots)) ((runs + 1) ∷ []) [] (Some (record ask { kinds = ask.kinds ++ bound_kind ∷ [] })))
 unfolding finished
 step_kept image hardware facts edits stamp runs slots ask value same absent =
     if_true _ _ (finish_allowed stamp _ ask.name (same ∙ sym (stamp_of_take image edits)))
-      ∙ ap (λ rows. Some (finished (record ask { kinds = ask.kinds ++ bound_kind ∷ [] }) edits ((runs + 1) ∷ []) rows)) (stored_rows ask.name stamp value slots absent)
+    ∙ ap (λ rows. Some (finished (record ask { kinds = ask.kinds ++ bound_kind ∷ [] }) edits ((runs + 1) ∷ []) rows)) (stored_rows ask.name stamp value slots absent)
 
 pub step_memory : (image : Image) (hardware : Hardware) (facts : List Fact) (edits : List Edit) (stamp runs : ℕ) (rows : List Row) (ask : Ask)
     → step (plain_opening image hardware facts) (plain_state edits rows [] (record { session = 1; kind = bound_kind; name = ask.name; stamp = stamp; runs = runs } ∷ []) (Some ask)) (Finish 1 bound_kind ask.name stamp Memory)
-        ≡ Some (plain_state edits rows ((runs + 1) ∷ []) [] (Some (record ask { memory = true })))
+    ≡ Some (plain_state edits rows ((runs + 1) ∷ []) [] (Some (record ask { memory = true })))
 step_memory image hardware facts edits stamp runs rows ask = if_true _ _ (memory_allowed stamp ask.name)
 
 -- An answer.

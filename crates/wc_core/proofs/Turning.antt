@@ -80,7 +80,7 @@ core_asked chain feature image hardware facts h inputs count stamp slots home ro
       single = rest.1;
       here = rest.2;
       inputs_are = fits.is_open.inputs ∙ ap (λ s. inputs_at o s t.at) same ∙ ap (λ n. after_edits image n (edits_of h)) rest.2 ∙ sym (core_inputs_at chain (feature 11) o h inputs count stamp slots home room core);
-      within = subst W ask_is core.within
+      within = subst W ask_is core.within;
     }
 
 -- Whose turn it is.
@@ -125,8 +125,8 @@ turn_missing image hardware facts h stamp slots home t here same single missing 
     let st : State = plain_state (edits_of h) (map (row_of stamp) slots) home [] (Some (ask_of t)) in
     let out = reach_is image hardware facts h stamp slots home t here same ∙ missing in
     if_false _ _ _ out
-      ∙ ap (turn_for o st (ask_of t)) (missing_if (within_reach o st (ask_of t) bound_kind) bound_kind (or_right t.memory _ out))
-      ∙ ap (λ l. at_home bound_kind l []) single.1
+    ∙ ap (turn_for o st (ask_of t)) (missing_if (within_reach o st (ask_of t) bound_kind) bound_kind (or_right t.memory _ out))
+    ∙ ap (λ l. at_home bound_kind l []) single.1
 
 turn_at : (o : Opening) (h : List Entry) (st : State) (ask : Ask) (turn : Turn) → state_after o h ≡ Some st → next_turn o st ask ≡ turn → IsTurn o h ask turn
 turn_at o h st ask turn state is = λ other found. ap (λ s. next_turn o s ask) (some_same other st (sym found ∙ state)) ∙ is
@@ -176,7 +176,7 @@ step_answer : {V : Type 0} (chain : Chain) (image : Image) (hardware : Hardware)
     → (memory || (has_kind bound_kind ask.kinds || has_value ask.name slots)) ≡ true
     → OutcomeIs chain memory inputs ask.name outcome
     → step (plain_opening image hardware facts) (plain_state (edits_of h) (map (row_of stamp) slots) home [] (Some ask)) (Answer 1 ask.name ask.at outcome)
-        ≡ Some (plain_state (edits_of h) (map (row_of stamp) slots) home [] None)
+    ≡ Some (plain_state (edits_of h) (map (row_of stamp) slots) home [] None)
 step_answer chain image hardware facts h inputs stamp slots home ask outcome true here same is reached told =
     let P : Outcome → Type 0 = λ r. step (plain_opening image hardware facts) (plain_state (edits_of h) (map (row_of stamp) slots) home [] (Some ask)) (Answer 1 ask.name ask.at r) ≡ Some (plain_state (edits_of h) (map (row_of stamp) slots) home [] None) in
     subst P (sym told) (step_no_memory image hardware facts (edits_of h) (map (row_of stamp) slots) home ask is)
@@ -213,15 +213,15 @@ core_answer chain feature image hardware facts h inputs count stamp slots home r
     let reached = reached_back image hardware facts h stamp slots home t (is_reached t slots) here core.stamp_is asked.single refl (turn st asked.kept.state) in
     let entry : Entry = Answer 1 t.name t.at outcome in
     let kept = grown chain o h entry _ _ home home [] [] (Some (ask_of t)) None _ asked.kept
-      (step_answer chain image hardware facts h (after_edits image t.at (edits_of h)) stamp slots home (ask_of t) outcome t.memory here core.stamp_is refl reached told)
-      (sym (append-nil (edits_of h))) (outcome_right chain t.memory _ t.name outcome told) in
+    (step_answer chain image hardware facts h (after_edits image t.at (edits_of h)) stamp slots home (ask_of t) outcome t.memory here core.stamp_is refl reached told)
+    (sym (append-nil (edits_of h))) (outcome_right chain t.memory _ t.name outcome told) in
     let next = rebuilt chain (feature 11) o h entry inputs count stamp slots slots home home room room [] None core refl kept core.features core.few (turn_free count stamp slots home asked.single)
-      (omega (arith, has_room chain o h inputs count stamp slots home room t asked)) (ran_more (length h) _ home (omega arith) core.ran.0) tt in
+    (omega (arith, has_room chain o h inputs count stamp slots home room t asked)) (ran_more (length h) _ home (omega arith) core.ran.0) tt in
     let S : ℕ → Type 0 = λ s. Answers chain feature o (h ++ Answer s t.name t.at outcome ∷ []) inputs count stamp slots home room s in
     subst S (sym asked.one) (record {
       core = next;
       legal = core_legal chain (feature 11) o _ inputs count stamp slots home room next;
-      free = record { st = _; state = kept.state; free = refl }
+      free = record { st = _; state = kept.state; free = refl };
     })
 
 -- A start.
@@ -258,13 +258,13 @@ core_start chain feature image hardware facts h inputs count stamp slots home ro
     let entry : Entry = Start 1 bound_kind t.name stamp in
     let K : List ℕ → Type 0 = λ l. Kept chain o h (plain_state (edits_of h) (map (row_of stamp) slots) l [] (Some (ask_of t))) in
     let kept = grown chain o h entry _ _ (runs ∷ []) [] [] (record { session = 1; kind = bound_kind; name = t.name; stamp = stamp; runs = runs } ∷ []) (Some (ask_of t)) (Some (ask_of t)) _ (subst K home_is asked.kept)
-      (step_start image hardware facts (edits_of h) stamp runs slots (ask_of t) here core.stamp_is quiet lacks absent)
-      (sym (append-nil (edits_of h))) tt in
+    (step_start image hardware facts (edits_of h) stamp runs slots (ask_of t) here core.stamp_is quiet lacks absent)
+    (sym (append-nil (edits_of h))) tt in
     let needs = three_left t.memory false home (ask_of t) asked.single quiet lacks in
     let R : List ℕ → Type 0 = λ l. Each (λ (r : ℕ). r ≤ length h) l in
     let ran = subst R home_is core.ran.0 in
     let next = rebuilt chain (feature 11) o h entry inputs count stamp slots slots home [] room room _ (Some (ask_of t)) core refl kept core.features core.few
-      (asked.here, lacks, quiet, absent, (runs, refl)) (omega (arith, asked.within, needs)) tt (omega (arith, ran.0), tt) in
+    (asked.here, lacks, quiet, absent, (runs, refl)) (omega (arith, asked.within, needs)) tt (omega (arith, ran.0), tt) in
     let settled : is_settled t ≡ false = ap (λ b. b || has_kind bound_kind (ask_of t).kinds) quiet ∙ lacks in
     let names : 4 ≤ t.spare = omega (arith, fits.room, ap names_needed settled) in
     let S : ℕ → Type 0 = λ s. Starts chain feature o (h ++ Start s bound_kind t.name stamp ∷ []) inputs count stamp slots room (flight_of t s stamp runs spare) in
@@ -277,10 +277,10 @@ core_start chain feature image hardware facts h inputs count stamp slots home ro
         is_open = record {
           ask = refl;
           inputs = asked.inputs_are ∙ core_inputs_at chain (feature 11) o _ inputs count stamp slots [] room next ∙ ap (λ n. after_edits image n (edits_of (h ++ entry ∷ []))) (sym asked.here);
-          features = fits.is_open.features
+          features = fits.is_open.features;
         };
         flies = refl;
         stamp = core_stamp_at chain (feature 11) o _ inputs count stamp slots [] room next ∙ ap (λ n. last_touch all_parts 0 0 (bare image) (take n (edits_of (h ++ entry ∷ [])))) (sym asked.here);
-        room = omega (arith, names, spare_is)
-      }
+        room = omega (arith, names, spare_is);
+      };
     })

@@ -122,7 +122,7 @@ IsTurnOf count stamp slots None (runs ∷ []) out = out ≡ []
 IsTurnOf count stamp slots (Some ask) (runs ∷ []) out = (out ≡ []) × (ask.at ≡ count)
 IsTurnOf count stamp slots (Some ask) [] out =
     (ask.at ≡ count) × (has_kind bound_kind ask.kinds ≡ false) × (ask.memory ≡ false) × (has_value ask.name slots ≡ false)
-      × ((runs : ℕ) × (out ≡ record { session = 1; kind = bound_kind; name = ask.name; stamp = stamp; runs = runs } ∷ []))
+    × ((runs : ℕ) × (out ≡ record { session = 1; kind = bound_kind; name = ask.name; stamp = stamp; runs = runs } ∷ []))
 IsTurnOf count stamp slots _ _ out = ⊥
 
 pub record IsCore {V : Type 0} (chain : Chain) (feature : Setting → List ℕ → V → Type 0) (o : Opening) (history : List Entry) (inputs : Setting) (count stamp : ℕ) (slots : List (Slot V)) (home : List ℕ) (room : ℕ) : Type 0 where

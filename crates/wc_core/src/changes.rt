@@ -75,7 +75,10 @@ fn is_same_cache(a: &Option<Cache>, b: &Option<Cache>) -> bool
 {
     match (a, b) {
         (None, None) => true,
-        (Some(a), Some(b)) => a.sets == b.sets && a.ways == b.ways && a.line == b.line && is_same_start(a.start, b.start),
+        (Some(a), Some(b)) => a.sets == b.sets
+            && a.ways == b.ways
+            && a.line == b.line
+            && is_same_start(a.start, b.start),
         _ => false,
     }
 }
@@ -90,7 +93,8 @@ pub(crate) fn is_touched(inputs: &Inputs, edit: &Edit) -> bool
             Some(fact) => matters(fact),
             None => false,
         },
-        Edit::Hardware(hardware) => !(is_same_cache(&inputs.hardware.cache, &hardware.cache) && is_same_cycles(&inputs.hardware.cycles, &hardware.cycles)),
+        Edit::Hardware(hardware) => !(is_same_cache(&inputs.hardware.cache, &hardware.cache)
+            && is_same_cycles(&inputs.hardware.cycles, &hardware.cycles)),
     }
 }
 
@@ -146,7 +150,12 @@ fn without_fact(alloc: Global, facts: &Facts, number: u64) -> Result<Facts, Allo
 }
 
 /// The inputs after the edit that is counted `count`.
-pub(crate) fn edited_inputs(alloc: Global, inputs: &Inputs, count: u64, edit: &Edit) -> Result<Inputs, AllocError>
+pub(crate) fn edited_inputs(
+    alloc: Global,
+    inputs: &Inputs,
+    count: u64,
+    edit: &Edit,
+) -> Result<Inputs, AllocError>
     ensures { IfOk result (λ i. setting_of i ≡ edited count (setting_of inputs.now) edit.now) }
 {
     let image = Arc::try_clone(&inputs.image)?;

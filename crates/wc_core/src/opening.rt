@@ -52,7 +52,11 @@ fn first_stamp(hardware: &Hardware) -> u64
     if is_changed(hardware) { 1 } else { 0 }
 }
 
-fn opening_history(alloc: Global, hardware: &Hardware, facts: &[Fact]) -> Result<Vec<Entry>, AllocError>
+fn opening_history(
+    alloc: Global,
+    hardware: &Hardware,
+    facts: &[Fact],
+) -> Result<Vec<Entry>, AllocError>
     requires { length facts.now < 2 ^ 63 }
     ensures { IfOk result (λ es. es.items ≡ Entry.Edit 0 1 (Edit.Hardware hardware.now) ∷ fact_entries 2 facts.now) }
 {

@@ -28,11 +28,17 @@ pub trait Work: Drop {
     type Value: Drop + Send + Sync;
 
     ghost may_run: { Self → Type 0 };
+
     ghost kind_of: { Self → ℕ };
+
     ghost runs_of: { Self → ℕ };
+
     ghost described: { List Describe };
+
     ghost is_feature: { ℕ → Setting → List ℕ → Self.Value → Type 0 };
+
     ghost outcome_of: { Self.Value → Option Outcome };
+
     ghost chain: { Setting → List ℕ → Outcome → Type 0 };
 
     fn kind(&self) -> Kind
@@ -59,5 +65,6 @@ pub trait Work: Drop {
         ensures { result ≡ outcome_of value.now };
 
     ghost stable: { (k : ℕ) (a b : Setting) (name : List ℕ) (v : Self.Value) → AgreeOnAll a b (closure described k) → is_feature k a name v → is_feature k b name v };
+
     ghost tells: { (i : Setting) (name : List ℕ) (v : Self.Value) → is_feature 11 i name v → Tells (chain i name) (outcome_of v) };
 }

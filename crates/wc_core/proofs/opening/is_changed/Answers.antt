@@ -10,6 +10,6 @@ or_end false = refl
 pub returns-in-None : goal.returns-in-None
 returns-in-None c =
     λ image.
-      ap not (c.has_default_cycles.ensures image)
-        ∙ sym (or_end (not (same_cycles (bare image).hardware.cycles c.args.hardware.now.cycles)))
-        ∙ ap (λ (k : Option Cache). not (same_cache None k) || (not (same_cycles (bare image).hardware.cycles c.args.hardware.now.cycles) || false)) (sym c.in-None.is)
+    ap not (c.has_default_cycles.ensures image)
+    ∙ sym (or_end (not (same_cycles (bare image).hardware.cycles c.args.hardware.now.cycles)))
+    ∙ ap (λ (k : Option Cache). not (same_cache None k) || (not (same_cycles (bare image).hardware.cycles c.args.hardware.now.cycles) || false)) (sym c.in-None.is)

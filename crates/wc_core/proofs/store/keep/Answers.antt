@@ -20,13 +20,13 @@ returns-in-Some-clause-items g c =
     let at = filled_at c.args.name c.args.value items d c.in-Some.place found in
     let same : d ≡ get_or items c.in-Some.place d = c.index_mut-slot.ensures.value in
     ap (λ (x : Slot g.row.V.Denot). set items c.in-Some.place (record { name = x.name; value = Some c.args.value })) same
-      ∙ sym at.2
-      ∙ sym (ap (λ b. if b then filled c.args.name c.args.value items else with_room items ++ record { name = c.args.name; value = Some c.args.value } ∷ []) at.1)
+    ∙ sym at.2
+    ∙ sym (ap (λ b. if b then filled c.args.name c.args.value items else with_room items ++ record { name = c.args.name; value = Some c.args.value } ∷ []) at.1)
 
 pub returns-in-None-clause-items : goal.returns-in-None-clause-items
 returns-in-None-clause-items g c =
     let items : List (Slot g.row.V.Denot) = c.args.slots.now.items in
     let found = ap (λ n. slot_place n items) (sym c.items.ensures) ∙ ap (λ (l : List (Slot g.row.V.Denot)). slot_place c.items.result.now l) (sym c.as_slice.ensures.value) ∙ sym c.place_of.ensures ∙ c.in-None.is in
     c.push_reserved.ensures.items
-      ∙ ap (λ (l : List (Slot g.row.V.Denot)). l ++ record { name = c.args.name; value = Some c.args.value } ∷ []) c.make_room.ensures.items
-      ∙ sym (ap (λ b. if b then filled c.args.name c.args.value items else with_room items ++ record { name = c.args.name; value = Some c.args.value } ∷ []) (none_at c.args.name items found))
+    ∙ ap (λ (l : List (Slot g.row.V.Denot)). l ++ record { name = c.args.name; value = Some c.args.value } ∷ []) c.make_room.ensures.items
+    ∙ sym (ap (λ b. if b then filled c.args.name c.args.value items else with_room items ++ record { name = c.args.name; value = Some c.args.value } ∷ []) (none_at c.args.name items found))

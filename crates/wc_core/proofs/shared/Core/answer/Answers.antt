@@ -12,7 +12,7 @@ invariant_of-self g c =
     let at = ap (λ (x : KnownTicket _). x.at) c.ticket.view_is in
     let entries = answer_entries _ i.history.items _ _ _ c.args.outcome c.args.ticket c.take_name-name.new.self c.push_reserved.ensures.items session at c.take_name-name.ensures.name c.take_name-name.ensures.rest in
     let goes = done_all g.W.Work.chain g.W.Work.is_feature i.inputs.value.image.value i.hardware i.facts.items i.history.items (setting_of i.inputs.value) i.count i.stamp i.slots.items _ (vec_capacity i.history) c.args.ticket c.args.outcome _ c.push_reserved.new.self.items
-      c.self.view_is c.self.invariant.0 c.requires.fits c.requires.turn c.requires.told entries in
+    c.self.view_is c.self.invariant.0 c.requires.fits c.requires.turn c.requires.told entries in
     rw c.push_reserved.ensures.capacity (goes.core, c.self.invariant.1, c.self.invariant.2, c.self.invariant.3, c.self.invariant.4)
 
 pub returns-clause-legal : goal.returns-clause-legal
@@ -22,7 +22,7 @@ returns-clause-legal g c =
     let at = ap (λ (x : KnownTicket _). x.at) c.ticket.view_is in
     let entries = answer_entries _ i.history.items _ _ _ c.args.outcome c.args.ticket c.take_name-name.new.self c.push_reserved.ensures.items session at c.take_name-name.ensures.name c.take_name-name.ensures.rest in
     let goes = done_all g.W.Work.chain g.W.Work.is_feature i.inputs.value.image.value i.hardware i.facts.items i.history.items (setting_of i.inputs.value) i.count i.stamp i.slots.items _ (vec_capacity i.history) c.args.ticket c.args.outcome _ c.push_reserved.new.self.items
-      c.self.view_is c.self.invariant.0 c.requires.fits c.requires.turn c.requires.told entries in
+    c.self.view_is c.self.invariant.0 c.requires.fits c.requires.turn c.requires.told entries in
     goes.legal
 
 pub returns-clause-free : goal.returns-clause-free
@@ -32,5 +32,5 @@ returns-clause-free g c =
     let at = ap (λ (x : KnownTicket _). x.at) c.ticket.view_is in
     let entries = answer_entries _ i.history.items _ _ _ c.args.outcome c.args.ticket c.take_name-name.new.self c.push_reserved.ensures.items session at c.take_name-name.ensures.name c.take_name-name.ensures.rest in
     let goes = done_all g.W.Work.chain g.W.Work.is_feature i.inputs.value.image.value i.hardware i.facts.items i.history.items (setting_of i.inputs.value) i.count i.stamp i.slots.items _ (vec_capacity i.history) c.args.ticket c.args.outcome _ c.push_reserved.new.self.items
-      c.self.view_is c.self.invariant.0 c.requires.fits c.requires.turn c.requires.told entries in
+    c.self.view_is c.self.invariant.0 c.requires.fits c.requires.turn c.requires.told entries in
     goes.free

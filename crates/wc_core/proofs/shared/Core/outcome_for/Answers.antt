@@ -11,4 +11,4 @@ returns g c =
     let i = c.self.inside in
     let P : List (Slot g.row.W-Value.Denot) → Type 0 = λ l. MatchOption c.reached.result (is_reached c.args.ticket.now l ≡ false) (λ x. (is_reached c.args.ticket.now l ≡ true) × OutcomeIs g.W.Work.chain c.args.ticket.now.memory c.args.ticket.now.inputs c.args.ticket.now.name x) in
     turn_all g.W.Work.chain g.W.Work.is_feature i.inputs.value.image.value i.hardware i.facts.items i.history.items (setting_of i.inputs.value) i.count i.stamp i.slots.items _ (vec_capacity i.history) c.args.ticket.now _ c.reached.result
-      c.self.view_is c.self.invariant.0 c.requires (subst P c.as_slice.ensures.value c.reached.ensures)
+    c.self.view_is c.self.invariant.0 c.requires (subst P c.as_slice.ensures.value c.reached.ensures)

@@ -13,8 +13,8 @@ invariant_of-self-2 g c =
     let pinned : setting_of c.in_ok-inputs.inputs.value ≡ setting_of i.inputs.value = ap setting_of c.in_ok-inputs.ensures in
     let spare : 4 ≤ length c.in_ok-names.names.items = omega (arith, c.in_ok-names.ensures.count) in
     let goes = goes_pin g.W.Work.chain g.W.Work.is_feature i.inputs.value.image.value i.hardware i.facts.items i.history.items (setting_of i.inputs.value) i.count i.stamp i.slots.items _ _ (vec_capacity c.reserve.new.self) c.args.session c.in_ok-entry.entry _
-      c.in_ok-shared.shared.value (setting_of c.in_ok-inputs.inputs.value) (length c.in_ok-names.names.items) c.push_reserved.new.self.items
-      c.self.view_is c.self.invariant.0 c.requires grows spare name pinned entries in
+    c.in_ok-shared.shared.value (setting_of c.in_ok-inputs.inputs.value) (length c.in_ok-names.names.items) c.push_reserved.new.self.items
+    c.self.view_is c.self.invariant.0 c.requires grows spare name pinned entries in
     rw c.push_reserved.ensures.capacity (goes.core, c.self.invariant.1, c.self.invariant.2, c.self.invariant.3, c.self.invariant.4)
 
 pub returns-clause-legal : goal.returns-clause-legal
@@ -26,8 +26,8 @@ returns-clause-legal g c =
     let pinned : setting_of c.in_ok-inputs.inputs.value ≡ setting_of i.inputs.value = ap setting_of c.in_ok-inputs.ensures in
     let spare : 4 ≤ length c.in_ok-names.names.items = omega (arith, c.in_ok-names.ensures.count) in
     let goes = goes_pin g.W.Work.chain g.W.Work.is_feature i.inputs.value.image.value i.hardware i.facts.items i.history.items (setting_of i.inputs.value) i.count i.stamp i.slots.items _ _ (vec_capacity c.reserve.new.self) c.args.session c.in_ok-entry.entry _
-      c.in_ok-shared.shared.value (setting_of c.in_ok-inputs.inputs.value) (length c.in_ok-names.names.items) c.push_reserved.new.self.items
-      c.self.view_is c.self.invariant.0 c.requires grows spare name pinned entries in
+    c.in_ok-shared.shared.value (setting_of c.in_ok-inputs.inputs.value) (length c.in_ok-names.names.items) c.push_reserved.new.self.items
+    c.self.view_is c.self.invariant.0 c.requires grows spare name pinned entries in
     goes.legal
 
 pub returns-clause-fits : goal.returns-clause-fits
@@ -39,6 +39,6 @@ returns-clause-fits g c =
     let pinned : setting_of c.in_ok-inputs.inputs.value ≡ setting_of i.inputs.value = ap setting_of c.in_ok-inputs.ensures in
     let spare : 4 ≤ length c.in_ok-names.names.items = omega (arith, c.in_ok-names.ensures.count) in
     let goes = goes_pin g.W.Work.chain g.W.Work.is_feature i.inputs.value.image.value i.hardware i.facts.items i.history.items (setting_of i.inputs.value) i.count i.stamp i.slots.items _ _ (vec_capacity c.reserve.new.self) c.args.session c.in_ok-entry.entry _
-      c.in_ok-shared.shared.value (setting_of c.in_ok-inputs.inputs.value) (length c.in_ok-names.names.items) c.push_reserved.new.self.items
-      c.self.view_is c.self.invariant.0 c.requires grows spare name pinned entries in
+    c.in_ok-shared.shared.value (setting_of c.in_ok-inputs.inputs.value) (length c.in_ok-names.names.items) c.push_reserved.new.self.items
+    c.self.view_is c.self.invariant.0 c.requires grows spare name pinned entries in
     goes.fits

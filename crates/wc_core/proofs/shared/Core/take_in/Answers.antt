@@ -25,8 +25,8 @@ invariant_of-self g c =
     let entries = finish_entries _ i.history.items _ _ (g.W.Work.kind_of c.args.work) _ _ _ c.args.ticket c.push_reserved-2.ensures.items session c.kind-kind.ensures c.take_name-name.ensures.name in
     let had = ap (λ (x : KnownTicket g.row.W-Value.Denot). x.had) view in
     let gives = kept_all g.W.Work.chain g.W.Work.is_feature i.inputs.value.image.value i.hardware i.facts.items i.history.items (setting_of i.inputs.value) i.count i.stamp i.slots.items c.keep.new.slots.items (vec_capacity i.history) c.args.ticket c.take_name-name.new.self c.take_name-row.new.self _ c.push_reserved-2.new.self.items
-      g.W.Work.runs_of i.works.items c.push_reserved.new.self.items c.args.work (g.W.Work.kind_of c.args.work) c.args.stamp c.take_name-row.result c.args.value c.args.own.value c.ticket.inside.had
-      c.self.view_is c.self.invariant.0 c.requires.fits c.push_reserved.ensures.items mid left had c.requires.copies row c.keep.ensures.items entries in
+    g.W.Work.runs_of i.works.items c.push_reserved.new.self.items c.args.work (g.W.Work.kind_of c.args.work) c.args.stamp c.take_name-row.result c.args.value c.args.own.value c.ticket.inside.had
+    c.self.view_is c.self.invariant.0 c.requires.fits c.push_reserved.ensures.items mid left had c.requires.copies row c.keep.ensures.items entries in
     let one = each_one (λ (w : g.row.W.Denot). (g.W.Work.kind_of w ≡ 11) × g.W.Work.may_run w) i.works.items c.args.work away.nobody (away.kind_is, c.requires.ready) in
     let E : List g.row.W.Denot → Type 0 = λ l. Each (λ (w : g.row.W.Denot). (g.W.Work.kind_of w ≡ 11) × g.W.Work.may_run w) l in
     rw (c.push_reserved-2.ensures.capacity, c.push_reserved.ensures.capacity, c.keep.ensures.capacity) (gives.core, subst E (sym c.push_reserved.ensures.items) one, c.self.invariant.2, c.self.invariant.3, c.self.invariant.4)
@@ -43,8 +43,8 @@ returns-clause-legal g c =
     let entries = finish_entries _ i.history.items _ _ (g.W.Work.kind_of c.args.work) _ _ _ c.args.ticket c.push_reserved-2.ensures.items session c.kind-kind.ensures c.take_name-name.ensures.name in
     let had = ap (λ (x : KnownTicket g.row.W-Value.Denot). x.had) view in
     let gives = kept_all g.W.Work.chain g.W.Work.is_feature i.inputs.value.image.value i.hardware i.facts.items i.history.items (setting_of i.inputs.value) i.count i.stamp i.slots.items c.keep.new.slots.items (vec_capacity i.history) c.args.ticket c.take_name-name.new.self c.take_name-row.new.self _ c.push_reserved-2.new.self.items
-      g.W.Work.runs_of i.works.items c.push_reserved.new.self.items c.args.work (g.W.Work.kind_of c.args.work) c.args.stamp c.take_name-row.result c.args.value c.args.own.value c.ticket.inside.had
-      c.self.view_is c.self.invariant.0 c.requires.fits c.push_reserved.ensures.items mid left had c.requires.copies row c.keep.ensures.items entries in
+    g.W.Work.runs_of i.works.items c.push_reserved.new.self.items c.args.work (g.W.Work.kind_of c.args.work) c.args.stamp c.take_name-row.result c.args.value c.args.own.value c.ticket.inside.had
+    c.self.view_is c.self.invariant.0 c.requires.fits c.push_reserved.ensures.items mid left had c.requires.copies row c.keep.ensures.items entries in
     gives.legal
 
 pub returns-clause-memory : goal.returns-clause-memory
@@ -64,7 +64,7 @@ returns-clause-fits g c =
     let entries = finish_entries _ i.history.items _ _ (g.W.Work.kind_of c.args.work) _ _ _ c.args.ticket c.push_reserved-2.ensures.items session c.kind-kind.ensures c.take_name-name.ensures.name in
     let had = ap (λ (x : KnownTicket g.row.W-Value.Denot). x.had) view in
     let gives = kept_all g.W.Work.chain g.W.Work.is_feature i.inputs.value.image.value i.hardware i.facts.items i.history.items (setting_of i.inputs.value) i.count i.stamp i.slots.items c.keep.new.slots.items (vec_capacity i.history) c.args.ticket c.take_name-name.new.self c.take_name-row.new.self _ c.push_reserved-2.new.self.items
-      g.W.Work.runs_of i.works.items c.push_reserved.new.self.items c.args.work (g.W.Work.kind_of c.args.work) c.args.stamp c.take_name-row.result c.args.value c.args.own.value c.ticket.inside.had
-      c.self.view_is c.self.invariant.0 c.requires.fits c.push_reserved.ensures.items mid left had c.requires.copies row c.keep.ensures.items entries in
+    g.W.Work.runs_of i.works.items c.push_reserved.new.self.items c.args.work (g.W.Work.kind_of c.args.work) c.args.stamp c.take_name-row.result c.args.value c.args.own.value c.ticket.inside.had
+    c.self.view_is c.self.invariant.0 c.requires.fits c.push_reserved.ensures.items mid left had c.requires.copies row c.keep.ensures.items entries in
     let F : KnownTicket g.row.W-Value.Denot → Type 0 = λ x. FitsTicket g.W.Work.is_feature (plain_opening i.inputs.value.image.value i.hardware i.facts.items) c.push_reserved-2.new.self.items (record x { had = (11, c.args.own.value) ∷ [] }) in
     subst F (sym c.ticket.view_is) gives.fits
