@@ -1,3 +1,4 @@
 pub mod Arithmetic
 pub mod Faults
 pub mod FaultTexts
+pub mod Troubles

@@ -3,6 +3,8 @@
 
 mod arithmetic;
 mod faults;
+mod troubles;
 
 pub use arithmetic::{add, mul, sub};
 pub use faults::{Addr, Fault, FieldWord, FileWord, UnbuiltWord, number};
+pub use troubles::Trouble;

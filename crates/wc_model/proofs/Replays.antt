@@ -52,9 +52,9 @@ kept_is_legal chain o history st kept = record { begins = kept.begins; goes_on =
 state_snoc : (o : Opening) (history : List Entry) (st new : State) (e : Entry) → opened o ≤ length history → state_after o history ≡ Some st → step o st e ≡ Some new → state_after o (history ++ e ∷ []) ≡ Some new
 state_snoc o history st new e within state next =
     ap (λ l. replay o (Some (start o)) l) (drop-append-le (opened o) history (e ∷ []) within)
-      ∙ replay-append o (Some (start o)) (drop (opened o) history) (e ∷ [])
-      ∙ ap (λ s. stepped o s e) state
-      ∙ next
+    ∙ replay-append o (Some (start o)) (drop (opened o) history) (e ∷ [])
+    ∙ ap (λ s. stepped o s e) state
+    ∙ next
 
 pub kept_snoc : (chain : Chain) (o : Opening) (history : List Entry) (st new : State) (e : Entry) → Kept chain o history st → step o st e ≡ Some new → IsRight chain o.image (edits_of history) e → new.edits ≡ st.edits ++ edit_of e → Kept chain o (history ++ e ∷ []) new
 kept_snoc chain o history st new e kept next right edits =
@@ -63,7 +63,7 @@ kept_snoc chain o history st new e kept next right edits =
       begins = take-append-le (opened o) history (e ∷ []) within ∙ kept.begins;
       state = state_snoc o history st new e within kept.state next;
       right = right_snoc chain o.image [] history e kept.right right;
-      edits = edits ∙ ap (λ l. l ++ edit_of e) kept.edits ∙ sym (edits_of-snoc history e)
+      edits = edits ∙ ap (λ l. l ++ edit_of e) kept.edits ∙ sym (edits_of-snoc history e);
     }
 
 -- The inputs and the stamp after some edits and some more.
@@ -79,4 +79,4 @@ last_touch-append parts stamp count s (e ∷ es) fs =
     let same : count + 1 + length es ≡ count + suc (length es) = omega arith in
     let next : ℕ = if touches_any parts s e then count + 1 else stamp in
     last_touch-append parts next (count + 1) (edited (count + 1) s e) es fs
-      ∙ ap (λ n. last_touch parts (last_touch parts next (count + 1) (edited (count + 1) s e) es) n (all_edited (count + 1) (edited (count + 1) s e) es) fs) same
+    ∙ ap (λ n. last_touch parts (last_touch parts next (count + 1) (edited (count + 1) s e) es) n (all_edited (count + 1) (edited (count + 1) s e) es) fs) same

@@ -35,8 +35,8 @@ added : (part : Part) (facts : List (ℕ × Fact)) (n : ℕ) (fact : Fact) → b
 added part facts n fact other =
     let single : filter (λ (f : ℕ × Fact). belongs part f.1) ((n, fact) ∷ []) ≡ [] = rw other refl in
     sym (filter-append (λ (f : ℕ × Fact). belongs part f.1) facts ((n, fact) ∷ [])
-      ∙ ap (λ l. filter (λ (f : ℕ × Fact). belongs part f.1) facts ++ l) single
-      ∙ append-nil _)
+    ∙ ap (λ l. filter (λ (f : ℕ × Fact). belongs part f.1) facts ++ l) single
+    ∙ append-nil _)
 
 dropped_case : (part : Part) (f : ℕ × Fact) (facts : List (ℕ × Fact)) (number : ℕ) (same : Bool) → (f.0 == number) ≡ same
     → touches_fact part (fact_numbered number (f ∷ facts)) ≡ false

@@ -6,12 +6,14 @@ mod entries;
 mod flow_facts;
 mod flow_system;
 mod graphs;
+mod image_words;
 mod inputs;
 mod instructions;
 mod kinds;
 mod machine;
 mod tables;
 mod values;
+pub mod walks;
 
 pub use elf_image::{Image, Name, Range};
 pub use entries::{Asked, End, Ended, Entry, Listing};

@@ -1,0 +1,10 @@
+use Rattle.std.proofs.Common.{◌≡◌, ◌+◌, ◌++◌, drop}
+use Rattle.wc_asm.specs.Files.{names_size, symbols_from, symbol_table}
+use Rattle.wc_asm.proofs.writer.put_symbols.Given as goal
+
+abbrev pub invariant-loop-name : goal.invariant-loop-name
+invariant-loop-name l =
+    record {
+      written : l.file.items ++ symbols_from l.place (drop l.name-index l.names) ≡ l.fn.file.items ++ symbol_table l.names;
+      place : l.place + names_size (drop l.name-index l.names) ≡ 1 + names_size l.names;
+    }

@@ -1,0 +1,4 @@
+pub mod Canonical
+pub mod Files
+pub mod Layouts
+pub mod Readings

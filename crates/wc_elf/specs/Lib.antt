@@ -1,0 +1,4 @@
+pub mod Entries
+pub mod Readings
+pub mod Strings
+pub mod SymbolTables

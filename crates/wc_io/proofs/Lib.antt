@@ -1,0 +1,6 @@
+pub mod RowLemmas
+pub mod WritingLemmas
+pub mod FileLemmas
+pub mod LineLemmas
+pub mod CollectLemmas
+pub mod NextLemmas

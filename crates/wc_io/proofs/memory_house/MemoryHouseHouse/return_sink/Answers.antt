@@ -1,0 +1,28 @@
+use Rattle.std.proofs.Common.{◌≡◌, ◌<◌, ◌-◌, ap, map, true, sym, ◌∙◌, length, arith, string_bytes}
+use Rattle.std.proofs.lemmas.List.{length-map}
+use Rattle.wc_io.specs.Rows.{row_of, path_at}
+use Rattle.wc_io.specs.declared.opened.OpenedRow.{OpenedRow}
+use Rattle.wc_io.proofs.RowLemmas.{sink_at_within, path_at_map}
+use Rattle.wc_io.proofs.memory_house.MemoryHouseHouse.return_sink.Goals as goal
+
+pub index-row-requires : goal.index-row-requires
+index-row-requires c =
+    let within = sink_at_within (map row_of c.args.self.now.opened.items) (c.args.sink.place - 1) true c.requires.1 in
+    let small : c.args.sink.place - 1 < length c.args.self.now.opened.items = omega (arith, within, length-map c.args.self.now.opened.items row_of) in
+    omega (arith, small, c.args.self.now.opened.ok)
+
+pub returns-clause-file : goal.returns-clause-file
+returns-clause-file c =
+    let within = sink_at_within (map row_of c.args.self.now.opened.items) (c.args.sink.place - 1) true c.requires.1 in
+    let path : path_at (c.args.sink.place - 1) (map row_of c.args.self.now.opened.items) ≡ c.as_str.result.now =
+    path_at_map c.args.self.now.opened.items (c.args.sink.place - 1) c.index-row.result.now (omega (arith, within, length-map c.args.self.now.opened.items row_of))
+    ∙ ap (λ (r : OpenedRow). string_bytes r.path) (sym c.index-row.ensures) ∙ sym c.as_str.ensures.value in
+    rw path c.fill_file.ensures.filled
+
+pub returns-clause-others : goal.returns-clause-others
+returns-clause-others c = λ p other.
+    let within = sink_at_within (map row_of c.args.self.now.opened.items) (c.args.sink.place - 1) true c.requires.1 in
+    let path : path_at (c.args.sink.place - 1) (map row_of c.args.self.now.opened.items) ≡ c.as_str.result.now =
+    path_at_map c.args.self.now.opened.items (c.args.sink.place - 1) c.index-row.result.now (omega (arith, within, length-map c.args.self.now.opened.items row_of))
+    ∙ ap (λ (r : OpenedRow). string_bytes r.path) (sym c.index-row.ensures) ∙ sym c.as_str.ensures.value in
+    c.fill_file.ensures.others p (λ same. other (same ∙ sym path))

@@ -1,0 +1,11 @@
+pub mod Ahead
+pub mod Causes
+pub mod Feeds
+pub mod Lines
+pub mod Memory
+pub mod Parts
+pub mod Reading
+pub mod Rows
+pub mod Tails
+pub mod Texts
+pub mod Writing

@@ -1,0 +1,4 @@
+pub mod NewPasses
+mod Prefixes
+mod Seats
+mod Steps

@@ -1,0 +1,30 @@
+use Rattle.wcet.proofs.BoundAnswers.{bound, refused, read, read_line, file, bad_file, write_line, complete}
+use Rattle.wcet.proofs.bound.bound_once.Goals as goal
+
+pub returns-in-Some-clause-bound : goal.returns-in-Some-clause-bound
+returns-in-Some-clause-bound g c = bound _ (g.H.House.file c.args.house.now) _ _ c.in-Some.ensures _ _ _ _ _ _ _ _ c.answer_to-answer.ensures.answer c.finish-in-Some.ensures
+
+pub returns-in-Some-clause-refused : goal.returns-in-Some-clause-refused
+returns-in-Some-clause-refused g c = refused _ (g.H.House.file c.args.house.now) _ _ c.in-Some.ensures _ _ _ _ _ _ _ _ c.answer_to-answer.ensures.answer c.finish-in-Some.ensures
+
+pub returns-in-Some-clause-read : goal.returns-in-Some-clause-read
+returns-in-Some-clause-read g c = read _ (g.H.House.file c.args.house.now) _ _ c.in-Some.ensures _ _ _ _ _ _ _ _ c.answer_to-answer.ensures.answer c.finish-in-Some.ensures
+
+pub returns-in-Some-clause-read_line : goal.returns-in-Some-clause-read_line
+returns-in-Some-clause-read_line g c = read_line _ (g.H.House.file c.args.house.now) _ _ c.in-Some.ensures _ _ _ _ _ _ _ _ c.answer_to-answer.ensures.answer c.finish-in-Some.ensures
+
+pub returns-in-Some-clause-file : goal.returns-in-Some-clause-file
+returns-in-Some-clause-file g c = file _ (g.H.House.file c.args.house.now) _ _ c.in-Some.ensures _ _ _ _ _ _ _ _ c.answer_to-answer.ensures.answer c.finish-in-Some.ensures
+
+pub returns-in-Some-clause-bad_file : goal.returns-in-Some-clause-bad_file
+returns-in-Some-clause-bad_file g c = bad_file _ (g.H.House.file c.args.house.now) _ _ c.in-Some.ensures _ _ _ _ _ _ _ _ c.answer_to-answer.ensures.answer c.finish-in-Some.ensures
+
+pub returns-in-Some-clause-complete : goal.returns-in-Some-clause-complete
+returns-in-Some-clause-complete g c = complete _ (g.H.House.file c.args.house.now) _ _ c.in-Some.ensures _ _ _ _ _ _ _ _ c.answer_to-answer.ensures.answer c.finish-in-Some.ensures
+
+-- words of no known form name no binary
+pub returns-in-None-clause-complete : goal.returns-in-None-clause-complete
+returns-in-None-clause-complete g c told same quiet = absurd (c.in-None.ensures told.binary told.name told.call)
+
+pub returns-in-Some-clause-write_line : goal.returns-in-Some-clause-write_line
+returns-in-Some-clause-write_line g c = write_line _ (g.H.House.file c.args.house.now) _ _ c.in-Some.ensures _ _ _ _ _ _ _ _ c.answer_to-answer.ensures.answer c.finish-in-Some.ensures

@@ -1,0 +1,328 @@
+use crate::Status;
+use crate::bound::bound_once;
+use std::alloc::{AllocError, Global};
+use std::test::Fail;
+use std::thread::Threads;
+use wc_io::{MemoryFile, MemoryHouse, MemorySink};
+
+fn put(file: &mut Vec<u8>, value: u32) -> Result<(), AllocError> {
+    file.extend_from_slice(&value.to_le_bytes())
+}
+
+fn put_half(file: &mut Vec<u8>, value: u16) -> Result<(), AllocError> {
+    file.extend_from_slice(&value.to_le_bytes())
+}
+
+// The header, and one executable segment at 0x8000 for so many bytes of code.
+fn put_headers(file: &mut Vec<u8>, code: u32, sections: u32) -> Result<(), AllocError> {
+    file.extend_from_slice(&[0x7F, b'E', b'L', b'F', 1, 1, 1, 0, 0, 0, 0, 0, 0, 0, 0, 0])?;
+    put_half(file, 2)?;
+    put_half(file, 40)?;
+    for value in [1, 0x8000, 52, sections, 0x0500_0000] {
+        put(file, value)?;
+    }
+    for value in [52, 32, 1, 40, 3, 2] {
+        put_half(file, value)?;
+    }
+    for value in [1, 84, 0x8000, 0x8000, code, code, 5, 4] {
+        put(file, value)?;
+    }
+    Ok(())
+}
+
+fn put_section(
+    file: &mut Vec<u8>,
+    kind: u32,
+    offset: u32,
+    size: u32,
+    link: u32,
+) -> Result<(), AllocError> {
+    for value in [0, kind, 0, 0, offset, size, link, 0, 4, 16] {
+        put(file, value)?;
+    }
+    Ok(())
+}
+
+// An executable with the code at 0x8000 and the function `f` there.
+fn program(alloc: Global, words: &[u32]) -> Result<Vec<u8>, AllocError> {
+    let mut file = Vec::new(alloc);
+    let code = 4 * u32::try_from(words.len().min(1 << 20)).unwrap_or(0);
+    put_headers(&mut file, code, 84 + code + 32 + 4)?;
+    for word in words {
+        put(&mut file, *word)?;
+    }
+    for value in [0, 0, 0, 0, 1, 0x8000, 0, 0xFFF1_0012] {
+        put(&mut file, value)?;
+    }
+    file.extend_from_slice(b"\0f\0\0")?;
+    put_section(&mut file, 0, 0, 0, 0)?;
+    put_section(&mut file, 2, 84 + code, 32, 2)?;
+    put_section(&mut file, 3, 84 + code + 32, 3, 0)?;
+    Ok(file)
+}
+
+fn house_of(
+    alloc: Global,
+    bytes: Vec<u8>,
+    most: usize,
+    failing: &[u64],
+) -> Result<MemoryHouse, AllocError> {
+    let mut files = Vec::new(alloc);
+    files.push(MemoryFile {
+        path: String::from_str(alloc, "a.elf")?,
+        bytes,
+        most,
+        failing: Vec::from_slice(alloc, failing)?,
+    })?;
+    Ok(MemoryHouse {
+        files,
+        calls: 0,
+        failing: Vec::new(alloc),
+        opened: Vec::new(alloc),
+    })
+}
+
+fn words_of(alloc: Global, line: &str) -> Result<Vec<String>, AllocError> {
+    let mut words = Vec::new(alloc);
+    for word in line.split(' ') {
+        words.push(String::from_str(alloc, word)?)?;
+    }
+    Ok(words)
+}
+
+// The status of a call, and what it wrote; some writes of the output fail, by their numbers.
+fn call<R: Threads + Sync>(
+    rt: &R,
+    alloc: Global,
+    line: &str,
+    house: &mut MemoryHouse,
+    failing: &[u64],
+) -> Result<(Status, Vec<u8>), AllocError> {
+    let mut out = MemorySink {
+        place: 0,
+        path: String::new(alloc),
+        held: Vec::new(alloc),
+        calls: 0,
+        failing: Vec::from_slice(alloc, failing)?,
+        faults: 0,
+    };
+    let words = words_of(alloc, line)?;
+    let status = bound_once(rt, alloc, &words, house, &mut out);
+    Ok((status, out.held))
+}
+
+const STRAIGHT: [u32; 2] = [0xE3A0_0001, 0xE12F_FF1E];
+
+#[test]
+fn each_way_to_end_has_its_line_and_status(rt: HostRuntime) -> Result<(), Fail> {
+    let alloc = rt.alloc();
+    for most in [0, 1] {
+        let mut house = house_of(alloc, program(alloc, &STRAIGHT)?, most, &[])?;
+        for (line, status, text) in [
+            ("bound a.elf - - f", 0, "bound f 2\n"),
+            ("bound a.elf - - zz", 1, "refused 4 NoSymbol\n"),
+            ("bound b.elf - - f", 3, "read fault\n"),
+            ("bound a.elf - - ", 2, "usage\n"),
+            ("bound a.elf - -", 2, "usage\n"),
+            ("bound a.elf - - f f", 2, "usage\n"),
+            ("bounds a.elf - - f", 2, "usage\n"),
+            ("--help", 2, "usage\n"),
+            ("", 2, "usage\n"),
+        ] {
+            let (was, wrote) = call(&rt, alloc, line, &mut house, &[])?;
+            assert_eq!(rt; was, status, "{line}");
+            assert!(rt; wrote.as_slice() == text.as_bytes(), "{line}");
+        }
+    }
+    Ok(())
+}
+
+#[test]
+fn an_empty_binary_is_refused(rt: HostRuntime) -> Result<(), Fail> {
+    let alloc = rt.alloc();
+    let mut house = house_of(alloc, Vec::new(alloc), 0, &[])?;
+    let (status, wrote) = call(&rt, alloc, "bound a.elf - - f", &mut house, &[])?;
+    assert_eq!(rt; status, 6);
+    assert!(rt; wrote.as_slice() == b"refused 1 Truncated offset 0\n".as_slice());
+    Ok(())
+}
+
+#[test]
+fn a_fault_of_the_outside_has_its_status(rt: HostRuntime) -> Result<(), Fail> {
+    let alloc = rt.alloc();
+    let line = "bound a.elf - - f";
+    let mut late = house_of(alloc, program(alloc, &STRAIGHT)?, 7, &[2])?;
+    let (status, wrote) = call(&rt, alloc, line, &mut late, &[])?;
+    assert_eq!(rt; status, 3);
+    assert!(rt; wrote.as_slice() == b"read fault\n".as_slice());
+    assert_eq!(rt; late.opened.len(), 1);
+    let mut house = house_of(alloc, program(alloc, &STRAIGHT)?, 0, &[])?;
+    for (write, text) in [(1, ""), (2, "bound ")] {
+        let (status, wrote) = call(&rt, alloc, line, &mut house, &[write])?;
+        assert_eq!(rt; status, 4);
+        assert!(rt; wrote.as_slice() == text.as_bytes());
+    }
+    Ok(())
+}
+
+// The line of `bound` for code at 0x8000, and its status.
+fn outcome_of<R: Threads + Sync>(
+    rt: &R,
+    alloc: Global,
+    words: &[u32],
+) -> Result<(Status, Vec<u8>), AllocError> {
+    let mut house = house_of(alloc, program(alloc, words)?, 0, &[])?;
+    call(rt, alloc, "bound a.elf - - f", &mut house, &[])
+}
+
+#[test]
+fn a_bound_is_the_greatest_cost_over_all_paths(rt: HostRuntime) -> Result<(), Fail> {
+    let alloc = rt.alloc();
+    let unbuilt = "refused 90 Unbuilt code\n";
+    for (code, text) in [
+        // cmp; beq over two words; the fall-through is longer than the jump
+        (
+            [
+                0xE350_0000,
+                0x0A00_0001,
+                0xE3A0_0001,
+                0xE3A0_0001,
+                0xE12F_FF1E,
+            ],
+            "bound f 5\n",
+        ),
+        // a return in the middle that is taken or not
+        (
+            [
+                0xE3A0_0001,
+                0x012F_FF1E,
+                0xE3A0_0001,
+                0xE3A0_0001,
+                0xE12F_FF1E,
+            ],
+            "bound f 5\n",
+        ),
+        // a jump over words that are no instructions
+        (
+            [
+                0xEA00_0002,
+                0xFFFF_FFFF,
+                0xFFFF_FFFF,
+                0xFFFF_FFFF,
+                0xE12F_FF1E,
+            ],
+            "bound f 2\n",
+        ),
+        // a jump out of the code
+        (
+            [
+                0xE350_0000,
+                0x0A00_0010,
+                0xE3A0_0001,
+                0xE3A0_0001,
+                0xE12F_FF1E,
+            ],
+            unbuilt,
+        ),
+        // a jump to itself
+        (
+            [
+                0xEAFF_FFFE,
+                0xE3A0_0001,
+                0xE3A0_0001,
+                0xE3A0_0001,
+                0xE12F_FF1E,
+            ],
+            unbuilt,
+        ),
+        // a loop beside an exit
+        (
+            [
+                0xE350_0000,
+                0x0A00_0001,
+                0xE3A0_0001,
+                0xE12F_FF1E,
+                0xEAFF_FFFE,
+            ],
+            unbuilt,
+        ),
+        // a loop of two words
+        (
+            [
+                0xE3A0_0001,
+                0xE250_0001,
+                0x1AFF_FFFD,
+                0xE3A0_0001,
+                0xE12F_FF1E,
+            ],
+            unbuilt,
+        ),
+        // the code ends without a return
+        (
+            [
+                0xE3A0_0001,
+                0xE3A0_0001,
+                0xE3A0_0001,
+                0xE3A0_0001,
+                0xE3A0_0001,
+            ],
+            unbuilt,
+        ),
+        // a word that is no instruction, and a jump to what a register says
+        (
+            [
+                0xE3A0_0001,
+                0xE7F0_00F0,
+                0xE3A0_0001,
+                0xE3A0_0001,
+                0xE12F_FF1E,
+            ],
+            unbuilt,
+        ),
+        (
+            [
+                0xE3A0_0001,
+                0xE12F_FF13,
+                0xE3A0_0001,
+                0xE3A0_0001,
+                0xE12F_FF1E,
+            ],
+            unbuilt,
+        ),
+    ] {
+        let (_, wrote) = outcome_of(&rt, alloc, &code)?;
+        assert!(rt; wrote.as_slice() == text.as_bytes(), "{text}");
+    }
+    Ok(())
+}
+
+#[test]
+fn forty_branches_in_a_row_are_answered_at_once(rt: HostRuntime) -> Result<(), Fail> {
+    let alloc = rt.alloc();
+    let mut code = Vec::new(alloc);
+    for _ in 0..40 {
+        // beq over the next word
+        code.push(0x0A00_0000)?;
+        code.push(0xE1A0_0000)?;
+    }
+    code.push(0xE12F_FF1E)?;
+    let (status, wrote) = outcome_of(&rt, alloc, &code)?;
+    assert_eq!(rt; status, 0);
+    assert!(rt; wrote.as_slice() == b"bound f 81\n".as_slice());
+    Ok(())
+}
+
+#[test]
+fn at_most_a_hundred_thousand_positions_are_analysed(rt: HostRuntime) -> Result<(), Fail> {
+    let alloc = rt.alloc();
+    for (count, text) in [
+        (99_999, "bound f 100000\n"),
+        (100_000, "refused 90 Unbuilt code\n"),
+    ] {
+        let mut code = vec![in alloc; 0xE1A0_0000; count]?;
+        code.push(0xE12F_FF1E)?;
+        let (_, wrote) = outcome_of(&rt, alloc, &code)?;
+        assert!(rt; wrote.as_slice() == text.as_bytes(), "{text}");
+    }
+    Ok(())
+}
