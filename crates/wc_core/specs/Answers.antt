@@ -6,8 +6,6 @@ use Rattle.wc_model.specs.declared.entries.End.{End}
 use Rattle.wc_model.specs.declared.entries.End.TheVariants.{Memory as MemoryEnd}
 use Rattle.wc_model.specs.declared.entries.Asked.{Asked}
 use Rattle.wc_model.specs.declared.entries.Listing.{Listing}
-use Rattle.wc_model.specs.declared.flow_facts.Fact.{Fact}
-use Rattle.wc_model.specs.declared.flow_facts.Fact.TheVariants.{Checksum}
 use Rattle.wc_model.specs.declared.inputs.Edit.{Edit}
 use Rattle.wc_model.specs.declared.inputs.Edit.TheVariants.{Drop}
 use Rattle.wc_model.specs.Edits.{Setting, after, edits_of}
@@ -17,11 +15,6 @@ use Rattle.wc_core.specs.declared.answers.Edited.TheVariants.{Done, NoFact as No
 use Rattle.wc_core.specs.Fits.{FitsTicket, FitsFlight}
 use Rattle.wc_core.specs.Turns.{IsTurn, OutcomeIs, answers, starts, waits}
 use Rattle.wc_core.specs.Views.{Known, KnownTicket, KnownFlight, KnownLanded, SameAsk, ask_of}
-
--- A checksum alone says nothing of what the program may do.
-abbrev pub is_plain_fact : Fact → Bool
-is_plain_fact (Checksum name value) = false
-is_plain_fact _ = true
 
 -- The session is one of the workspace and has no open ask.
 pub record LeavesFree (o : Opening) (history : List Entry) (session : ℕ) : Type 0 where

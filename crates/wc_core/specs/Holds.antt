@@ -5,6 +5,7 @@ use Rattle.std.specs.declared.sync.Arc.{Arc}
 use Rattle.wc_model.specs.declared.elf_image.Image.{Image}
 use Rattle.wc_model.specs.declared.entries.Entry.{Entry}
 use Rattle.wc_model.specs.declared.flow_facts.Fact.{Fact}
+use Rattle.wc_model.specs.declared.flow_facts.Fact.TheVariants.{Checksum}
 use Rattle.wc_model.specs.declared.inputs.Edit.{Edit}
 use Rattle.wc_model.specs.declared.kinds.Describe.{Describe}
 use Rattle.wc_model.specs.declared.kinds.Part.{Part}
@@ -27,6 +28,21 @@ bound_alone = record { provides = bound_kind; requires_ = []; reads = all_parts 
 abbrev pub plain_opening : Image → Hardware → List Fact → Opening
 plain_opening image hardware facts =
     record { image = image; kinds = bound_alone ∷ []; works = (bound_kind, 1) ∷ []; hardware = hardware; facts = facts; sessions = 1 }
+
+-- A checksum alone says nothing of what the program may do.
+abbrev pub is_plain_fact : Fact → Bool
+is_plain_fact (Checksum name value) = false
+is_plain_fact _ = true
+
+-- Facts with their numbers, from a first one on.
+abbrev pub numbered_from : ℕ → List Fact → List (ℕ × Fact)
+numbered_from number [] = []
+numbered_from number (f ∷ fs) = (number, f) ∷ numbered_from (number + 1) fs
+
+-- The last count at which a fact touched anything, where each is added by an edit of its own.
+abbrev pub stamp_from : ℕ → ℕ → List Fact → ℕ
+stamp_from stamp count [] = stamp
+stamp_from stamp count (f ∷ fs) = stamp_from (if is_plain_fact f then count + 1 else stamp) (count + 1) fs
 
 abbrev pub keys_of : {V : Type 0} → ℕ → Option V → List (ℕ × ℕ)
 keys_of stamp None = []

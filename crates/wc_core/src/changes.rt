@@ -2,8 +2,7 @@ ghost use Rattle.std.specs.Prelude.{ℕ, ◌≡◌, ◌∷◌, [], ◌++◌, ◌
 ghost use Rattle.wc_model.specs.Closures.{touches_any};
 ghost use Rattle.wc_model.specs.Edits.{setting_of, edited, fact_numbered, without_number, same_cycles, same_cache, same_start};
 ghost use Rattle.wc_model.specs.History.{can_edit, is_live};
-ghost use Rattle.wc_core.specs.Holds.{all_parts};
-ghost use Rattle.wc_core.specs.Answers.{is_plain_fact};
+ghost use Rattle.wc_core.specs.Holds.{all_parts, is_plain_fact};
 
 use std::alloc::{AllocError, Global};
 use std::sync::Arc;
@@ -35,7 +34,7 @@ pub(crate) fn missing_fact(inputs: &Inputs, edit: &Edit) -> Option<u64>
 }
 
 // Whether a fact says something of the control flow, of loops or of limits.
-fn matters(fact: &Fact) -> bool
+pub(crate) fn matters(fact: &Fact) -> bool
     ensures { result ≡ is_plain_fact fact.now }
 {
     match fact {

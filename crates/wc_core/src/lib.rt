@@ -5,6 +5,7 @@ mod answers;
 mod asks;
 mod calls;
 mod changes;
+mod opening;
 mod shared;
 mod store;
 mod tickets;
@@ -14,3 +15,6 @@ pub use answers::Edited;
 pub use shared::Core;
 pub use tickets::{Flight, Landed, Next, Ticket};
 pub use work::{Given, Job, Work};
+
+#[cfg(test)]
+mod tests;

@@ -1,5 +1,5 @@
 ghost use Rattle.std.specs.Prelude.{ℕ, ◌≡◌, ◌∷◌, [], ◌++◌, ◌+◌, ◌<◌, ◌≤◌, ◌^◌, true, false, IfOk, OnErr, MatchResult, map};
-ghost use Rattle.wc_core.specs.Views.{Known};
+ghost use Rattle.wc_core.specs.Answers.{LeavesFree, RunsNothing};
 
 use crate::store::Slot;
 use crate::work::Work;
@@ -38,9 +38,10 @@ impl<W: Work> Model for Core<W> {
 }
 
 impl<W: Work> Core<W> {
-    /// All entries since the core was made, in order.
+    /// All entries since the core was made, in order. Where the one session has no open ask, no run is out.
     pub fn history(&self) -> &[Entry]
-        ensures { result.now ≡ self.now.history }
+        ensures entries { result.now ≡ self.now.history }
+        ensures rests { LeavesFree self.now.opening self.now.history 1 → RunsNothing self.now.opening self.now.history }
     {
         self.history.as_slice()
     }

@@ -1,0 +1,234 @@
+ghost use Rattle.std.specs.Prelude.{◌≡◌, ◌∷◌, [], Some, IfOk, map};
+ghost use Rattle.wc_core.specs.Answers.{LeavesFree};
+ghost use Rattle.wc_core.specs.Features.{Each};
+ghost use Rattle.wc_core.specs.Holds.{bound_alone};
+
+use super::*;
+use std::alloc::{AllocError, Global};
+use std::sync::Arc;
+use std::test::Fail;
+use wc_model::{
+    Asked, Cycles, Describe, Edit, Fact, Hardware, Image, Kind, Outcome, Part, Table, Text,
+};
+
+// A work whose value is the number of its runs. The run numbered `failing` finds no memory.
+#[derive(Drop)]
+struct Counter {
+    kind: Kind,
+    runs: u64,
+    failing: u64,
+}
+
+impl Work for Counter {
+    type Value = u64;
+
+    ghost use Rattle.std.specs.Prelude.{◌≡◌, ◌∷◌, [], Option, Some};
+    ghost use Rattle.wc_core.specs.Holds.{bound_alone};
+    ghost use Rattle.wc_model.specs.declared.values.Outcome.TheVariants.{Bound};
+
+    ghost may_run = { λ _. Unit {0} };
+
+    ghost kind_of = { λ w. w.kind };
+
+    ghost runs_of = { λ w. w.runs };
+
+    ghost described = { bound_alone ∷ [] };
+
+    ghost is_feature = { λ _ _ _ _. Unit {0} };
+
+    ghost outcome_of = { λ v. Some (Bound v) };
+
+    ghost chain = { λ _ _ _. Unit {0} };
+
+    fn kind(&self) -> Kind {
+        self.kind
+    }
+
+    fn runs(&self) -> u64 {
+        self.runs
+    }
+
+    fn run(
+        &mut self,
+        alloc: Global,
+        _job: &Job,
+        _given: &Given<u64>,
+    ) -> Result<Arc<u64>, AllocError> {
+        self.runs += 1;
+        if self.runs == self.failing {
+            return Err(AllocError);
+        }
+        Ok(Arc::new(alloc, self.runs)?)
+    }
+
+    fn outcome(value: &u64) -> Option<Outcome>
+        ensures { result ≡ Some (Outcome.Bound value.now) }
+    {
+        Some(Outcome::Bound(*value as u128))
+    }
+
+    ghost stable = { λ _ _ _ _ _ _ f. f };
+
+    ghost tells = { λ _ _ _ _. tt };
+}
+
+fn bound_kind() -> Result<Kind, AllocError>
+    ensures { IfOk result (λ k. k ≡ 11) }
+{
+    match Kind::new(11) {
+        Some(kind) => Ok(kind),
+        None => Err(AllocError),
+    }
+}
+
+fn describes(alloc: Global) -> Result<Vec<Describe>, AllocError>
+    ensures { IfOk result (λ ds. ds.items ≡ bound_alone ∷ []) }
+{
+    let mut reads = Vec::new(alloc);
+    reads.push(Part::Steer)?;
+    reads.push(Part::Loops)?;
+    reads.push(Part::Limits)?;
+    reads.push(Part::Cache)?;
+    reads.push(Part::Cycles)?;
+    let mut list = Vec::new(alloc);
+    list.push(Describe {
+        provides: bound_kind()?,
+        requires_: Table::new(Vec::new(alloc)),
+        reads: Table::new(reads),
+    })?;
+    Ok(list)
+}
+
+fn plain_hardware(alu: u16) -> Hardware {
+    Hardware {
+        cycles: Cycles {
+            alu,
+            mul: 1,
+            div: 1,
+            load: 1,
+            store: 1,
+            multi: 1,
+            branch: 1,
+            system: 1,
+            taken: 0,
+            per_register: 0,
+            hit: 0,
+            miss: 0,
+        },
+        cache: None,
+    }
+}
+
+fn works_of(alloc: Global, failing: u64) -> Result<Vec<Counter>, AllocError>
+    ensures kinds { IfOk result (λ ws. map (λ w. w.kind) ws.items ≡ 11 ∷ []) }
+    ensures runs { IfOk result (λ ws. map (λ w. w.runs) ws.items ≡ 0 ∷ []) }
+    ensures ready { IfOk result (λ ws. Each (λ _. Unit {0}) ws.items) }
+{
+    let mut works = Vec::new(alloc);
+    works.push(Counter {
+        kind: bound_kind()?,
+        runs: 0,
+        failing,
+    })?;
+    Ok(works)
+}
+
+fn core_of(alloc: Global, failing: u64) -> Result<Core<Counter>, AllocError>
+    ensures { IfOk result (λ c. LeavesFree c.opening c.history 1) }
+{
+    let image = Image {
+        bytes: Table::new(Vec::new(alloc)),
+        ranges: Table::new(Vec::new(alloc)),
+        names: Table::new(Vec::new(alloc)),
+    };
+    let image = Arc::new(alloc, image)?;
+    let works = works_of(alloc, failing)?;
+    Core::new(
+        alloc,
+        image,
+        describes(alloc)?,
+        works,
+        plain_hardware(1),
+        Vec::new(alloc),
+        1,
+    )
+}
+
+// One ask from its pin to its answer.
+fn ask(core: &mut Core<Counter>, alloc: Global, name: &[u8]) -> Result<Asked, AllocError>
+    requires { LeavesFree core.old.opening core.old.history 1 }
+    ensures { IfOk result (λ _. LeavesFree core.new.opening core.new.history 1) }
+{
+    let ticket = core.pin(1, name)?;
+    match core.next(ticket) {
+        Next::Done(asked) => Ok(asked),
+        Next::Run(flight) => {
+            let ticket = core.give(flight.run(alloc));
+            match core.next(ticket) {
+                Next::Done(asked) => Ok(asked),
+                _ => Err(AllocError),
+            }
+        }
+        Next::Busy(_ticket, _session) => Err(AllocError),
+    }
+}
+
+#[test]
+fn answers_from_the_store_until_an_edit_touches_it(rt: HostRuntime) -> Result<(), Fail> {
+    let alloc = rt.alloc();
+    let mut core = core_of(alloc, 0)?;
+    let first = ask(&mut core, alloc, b"f")?;
+    assert_eq!(rt; first.outcome, Outcome::Bound(1));
+    assert_eq!(rt; first.at, 1);
+    // the second time it is answered from the store
+    assert_eq!(rt; ask(&mut core, alloc, b"f")?.outcome, Outcome::Bound(1));
+    // a checksum touches nothing
+    let checksum = Fact::Checksum {
+        name: Text::new(Vec::new(alloc)),
+        value: 7,
+    };
+    assert_eq!(rt; core.edit(1, Edit::Add(checksum))?, Edited::Done(2));
+    assert_eq!(rt; ask(&mut core, alloc, b"f")?.outcome, Outcome::Bound(1));
+    // the hardware touches the cycles
+    assert_eq!(rt;
+        core.edit(1, Edit::Hardware(plain_hardware(2)))?,
+        Edited::Done(3)
+    );
+    let third = ask(&mut core, alloc, b"f")?;
+    assert_eq!(rt; third.outcome, Outcome::Bound(2));
+    assert_eq!(rt; third.at, 3);
+    // a number that no live fact has
+    assert_eq!(rt; core.edit(1, Edit::Drop(99))?, Edited::NoFact(3));
+    let listing = core.list(1)?;
+    assert_eq!(rt; listing.facts.items().len(), 1);
+    // 1 opening edit, 4 entries a computed ask, 2 an answered one, and 2 edits, 1 refused drop, 1 list
+    assert_eq!(rt; core.history().len(), 17);
+    Ok(())
+}
+
+#[test]
+fn an_ask_after_want_of_memory_computes(rt: HostRuntime) -> Result<(), Fail> {
+    let alloc = rt.alloc();
+    let mut core = core_of(alloc, 1)?;
+    assert_eq!(rt; ask(&mut core, alloc, b"f")?.outcome, Outcome::Memory);
+    assert_eq!(rt; ask(&mut core, alloc, b"f")?.outcome, Outcome::Bound(2));
+    Ok(())
+}
+
+#[test]
+fn the_earliest_of_33_names_is_computed_again(rt: HostRuntime) -> Result<(), Fail> {
+    let alloc = rt.alloc();
+    let mut core = core_of(alloc, 0)?;
+    for name in 0u8..33 {
+        assert_eq!(rt;
+            ask(&mut core, alloc, &[name])?.outcome,
+            Outcome::Bound(name as u128 + 1)
+        );
+    }
+    assert_eq!(rt; ask(&mut core, alloc, &[32])?.outcome, Outcome::Bound(33));
+    assert_eq!(rt; ask(&mut core, alloc, &[0])?.outcome, Outcome::Bound(34));
+    core.history();
+    let (_history, works) = core.close();
+    assert_eq!(rt; works[0].runs(), 34);
+    Ok(())
+}
