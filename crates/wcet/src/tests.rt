@@ -3,62 +3,26 @@ use crate::bound::bound_once;
 use std::alloc::{AllocError, Global};
 use std::test::Fail;
 use std::thread::Threads;
+use wc_asm::{Program, is_writable, write_elf};
 use wc_io::{MemoryFile, MemoryHouse, MemorySink};
+use wc_model::Table;
 
-fn put(file: &mut Vec<u8>, value: u32) -> Result<(), AllocError> {
-    file.extend_from_slice(&value.to_le_bytes())
-}
-
-fn put_half(file: &mut Vec<u8>, value: u16) -> Result<(), AllocError> {
-    file.extend_from_slice(&value.to_le_bytes())
-}
-
-// The header, and one executable segment at 0x8000 for so many bytes of code.
-fn put_headers(file: &mut Vec<u8>, code: u32, sections: u32) -> Result<(), AllocError> {
-    file.extend_from_slice(&[0x7F, b'E', b'L', b'F', 1, 1, 1, 0, 0, 0, 0, 0, 0, 0, 0, 0])?;
-    put_half(file, 2)?;
-    put_half(file, 40)?;
-    for value in [1, 0x8000, 52, sections, 0x0500_0000] {
-        put(file, value)?;
-    }
-    for value in [52, 32, 1, 40, 3, 2] {
-        put_half(file, value)?;
-    }
-    for value in [1, 84, 0x8000, 0x8000, code, code, 5, 4] {
-        put(file, value)?;
-    }
-    Ok(())
-}
-
-fn put_section(
-    file: &mut Vec<u8>,
-    kind: u32,
-    offset: u32,
-    size: u32,
-    link: u32,
-) -> Result<(), AllocError> {
-    for value in [0, kind, 0, 0, offset, size, link, 0, 4, 16] {
-        put(file, value)?;
-    }
-    Ok(())
-}
-
-// An executable with the code at 0x8000 and the function `f` there.
+// An executable with the code at 0x8000, the function `f` there and `t` one byte later; nothing where it is too
+// long.
 fn program(alloc: Global, words: &[u32]) -> Result<Vec<u8>, AllocError> {
-    let mut file = Vec::new(alloc);
-    let code = 4 * u32::try_from(words.len().min(1 << 20)).unwrap_or(0);
-    put_headers(&mut file, code, 84 + code + 32 + 4)?;
-    for word in words {
-        put(&mut file, *word)?;
+    let mut names = Vec::new(alloc);
+    names.push((Table::new(Vec::from_slice(alloc, b"f")?), 0x8000))?;
+    names.push((Table::new(Vec::from_slice(alloc, b"t")?), 0x8001))?;
+    let program = Program {
+        start: 0x8000,
+        words: Table::new(Vec::from_slice(alloc, words)?),
+        names: Table::new(names),
+    };
+    if is_writable(&program) {
+        write_elf(alloc, &program)
+    } else {
+        Ok(Vec::new(alloc))
     }
-    for value in [0, 0, 0, 0, 1, 0x8000, 0, 0xFFF1_0012] {
-        put(&mut file, value)?;
-    }
-    file.extend_from_slice(b"\0f\0\0")?;
-    put_section(&mut file, 0, 0, 0, 0)?;
-    put_section(&mut file, 2, 84 + code, 32, 2)?;
-    put_section(&mut file, 3, 84 + code + 32, 3, 0)?;
-    Ok(file)
 }
 
 fn house_of(
@@ -121,6 +85,7 @@ fn each_way_to_end_has_its_line_and_status(rt: HostRuntime) -> Result<(), Fail> 
         for (line, status, text) in [
             ("bound a.elf - - f", 0, "bound f 2\n"),
             ("bound a.elf - - zz", 1, "refused 4 NoSymbol\n"),
+            ("bound a.elf - - t", 1, "refused 5 Thumb 0x00008001\n"),
             ("bound b.elf - - f", 3, "read fault\n"),
             ("bound a.elf - - ", 2, "usage\n"),
             ("bound a.elf - -", 2, "usage\n"),
@@ -138,12 +103,18 @@ fn each_way_to_end_has_its_line_and_status(rt: HostRuntime) -> Result<(), Fail> 
 }
 
 #[test]
-fn an_empty_binary_is_refused(rt: HostRuntime) -> Result<(), Fail> {
+fn a_binary_without_a_header_or_of_too_many_bytes_is_refused(rt: HostRuntime) -> Result<(), Fail> {
     let alloc = rt.alloc();
-    let mut house = house_of(alloc, Vec::new(alloc), 0, &[])?;
-    let (status, wrote) = call(&rt, alloc, "bound a.elf - - f", &mut house, &[])?;
-    assert_eq!(rt; status, 6);
-    assert!(rt; wrote.as_slice() == b"refused 1 Truncated offset 0\n".as_slice());
+    for (size, text) in [
+        (0, "refused 1 Truncated offset 0\n"),
+        (16_777_216, "refused 2 NotArm offset 0\n"),
+        (16_777_217, "refused 6 LongFile binary\n"),
+    ] {
+        let mut house = house_of(alloc, vec![in alloc; 0u8; size]?, 0, &[])?;
+        let (status, wrote) = call(&rt, alloc, "bound a.elf - - f", &mut house, &[])?;
+        assert_eq!(rt; status, 6, "{text}");
+        assert!(rt; wrote.as_slice() == text.as_bytes(), "{text}");
+    }
     Ok(())
 }
 
