@@ -29,7 +29,12 @@ fn is_class_key(key: &str) -> bool
 fn is_cache_key(key: &str) -> bool
     ensures { result ≡ is_cache_key key.now }
 {
-    key == "sets" || key == "ways" || key == "line" || key == "hit" || key == "miss" || key == "start"
+    key == "sets"
+        || key == "ways"
+        || key == "line"
+        || key == "hit"
+        || key == "miss"
+        || key == "start"
 }
 
 fn has_root_keys(object: &Map<String, Value>) -> bool
@@ -41,13 +46,17 @@ fn has_root_keys(object: &Map<String, Value>) -> bool
 fn has_class_keys(object: &Map<String, Value>) -> bool
     ensures { result ≡ list_all (λ e. is_class_key (string_bytes e.0)) object.now.entries }
 {
-    object.iter().all(|(key, _value)| is_class_key(key.as_str()))
+    object
+        .iter()
+        .all(|(key, _value)| is_class_key(key.as_str()))
 }
 
 fn has_cache_keys(object: &Map<String, Value>) -> bool
     ensures { result ≡ list_all (λ e. is_cache_key (string_bytes e.0)) object.now.entries }
 {
-    object.iter().all(|(key, _value)| is_cache_key(key.as_str()))
+    object
+        .iter()
+        .all(|(key, _value)| is_cache_key(key.as_str()))
 }
 
 /// An object with no key beside `cycles` and `icache`.

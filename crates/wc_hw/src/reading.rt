@@ -4,7 +4,9 @@ ghost use Rattle.serde_json.specs.View.{view};
 ghost use Rattle.wc_hw.specs.HardwareFile.{AreCycles, IsCache, IsHardware, first_wrong, hit_of, line_of, miss_of, sets_of, start_of, ways_of, wrong_cache_field, wrong_class};
 ghost use Rattle.wc_hw.specs.Reading.{ReadsAs};
 
-use crate::members::{are_cycles_right, cache_number, cycles_of, has_cache, is_icache_right, is_root, member};
+use crate::members::{
+    are_cycles_right, cache_number, cycles_of, has_cache, is_icache_right, is_root, member,
+};
 use serde_json::Value;
 use std::alloc::{AllocError, Global};
 use wc_base::{Fault, FieldWord, Trouble};
@@ -13,7 +15,7 @@ use wc_model::{Cache, Cycles, Hardware, StartState};
 /// The ten costs of the classes, with no cost of a fetch.
 fn read_cycles(value: &Value) -> Result<Cycles, FieldWord>
     ensures { MatchResult result
-        (λ c. (wrong_class (view value.now) ≡ None) × AreCycles c (view value.now))
+        (λ c. (wrong_class (view value.now) ≡ None) × AreCycles c (view value.now) × (c.hit ≡ 0) × (c.miss ≡ 0))
         (λ word. wrong_class (view value.now) ≡ Some word) }
 {
     let Some(alu) = cycles_of(value, "alu", 1) else {
