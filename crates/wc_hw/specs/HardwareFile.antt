@@ -1,5 +1,5 @@
 -- The hardware file: what a JSON value says of the processor's timing, and which of its names is wrong first.
-use Rattle.std.specs.Prelude.{◌≡◌, ℕ, Bool, true, false, not, ◌&&◌, ◌||◌, nat_le, if◌then◌else◌, List, codes, bytes_eq, Option, Some, None, option_and_then, unwrap_or, is_some, is_none}
+use Rattle.std.specs.Prelude.{◌≡◌, ℕ, Bool, true, false, not, ◌&&◌, ◌||◌, nat_le, if◌then◌else◌, List, codes, bytes_eq, Option, Some, None, option_and_then, unwrap_or, is_none}
 use Rattle.serde_json.specs.Data.{Data, Members, no_members, member}
 use Rattle.serde_json.specs.Find.{get, as_null, as_number, as_object, as_str, as_u64}
 use Rattle.wc_base.specs.declared.faults.FieldWord.{FieldWord}

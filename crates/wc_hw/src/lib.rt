@@ -4,6 +4,8 @@
 mod members;
 mod printing;
 mod reading;
+#[cfg(test)]
+mod tests;
 
 pub use printing::{print_hardware, write_hardware};
 pub use reading::read_hardware;
