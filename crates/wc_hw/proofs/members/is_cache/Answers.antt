@@ -1,0 +1,8 @@
+use Rattle.std.proofs.Common.{ap, ◌∙◌}
+use Rattle.wc_hw.specs.HardwareFile.{holds, keys_pass, is_cache_key}
+use Rattle.wc_hw.proofs.KeyLemmas.{keys_all}
+use Rattle.wc_hw.proofs.members.is_cache.Goals as goal
+
+pub returns-in-Some : goal.returns-in-Some
+returns-in-Some c =
+    c.has_cache_keys.ensures ∙ keys_all is_cache_key c.in-Some.object.now.entries ∙ ap (holds (keys_pass is_cache_key)) c.in-Some.ensures

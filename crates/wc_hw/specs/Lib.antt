@@ -1,0 +1,3 @@
+pub mod HardwareFile
+pub mod HardwareText
+pub mod Reading
