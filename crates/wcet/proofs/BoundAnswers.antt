@@ -12,17 +12,14 @@ use Rattle.wc_model.specs.declared.values.Outcome.{Outcome}
 use Rattle.wc_model.specs.declared.values.Outcome.TheVariants.{Bound, Fault, Memory}
 use Rattle.wcet.specs.declared.answers.Answer.{Answer}
 use Rattle.wcet.specs.declared.answers.Answer.TheVariants as answer
-use Rattle.wcet.specs.Answers.{Finishes}
-use Rattle.wcet.specs.BoundCall.{Explains, Prints, IsBadBinary, Analyses, Analysed, IsTold, IsReadable, Refuses, IsBinaryFault}
+use Rattle.wcet.specs.Answers.{Finishes, Shows, line_of}
+use Rattle.wcet.specs.BoundCall.{Explains, Prints, IsBadBinary, Analyses, Analysed, IsTold, IsReadable, Refuses, IsBinaryFault, IsOfChain, IsOfBinary}
 use Rattle.wcet.specs.Words.{IsBoundCall}
+use Rattle.wcet.proofs.PossibleFaults.{of_binary, of_chain}
 
 failed_snoc : (rows : List Row) (path : List ℕ) → failed_count false rows < failed_count false (rows ++ row_failed path false true ∷ [])
 failed_snoc [] path = omega arith
 failed_snoc (r ∷ rows) path = let more = failed_snoc rows path in omega arith
-
--- a whole text is a part of itself
-whole : (old new : Option (List ℕ)) (text : List ℕ) → Appends old new text → AppendsPart old new text
-whole old new text appended = (length text, omega arith, subst (λ (t : List ℕ). Appends old new t) (sym (take-length text)) appended)
 
 -- the same where nothing is told of the file
 same_file : (words : List (List ℕ)) (binary name other label : List ℕ) → IsBoundCall words binary name → IsBoundCall words other label → other ≡ binary
@@ -38,13 +35,18 @@ analysed_good : (bytes name : List ℕ) (outcome : Outcome) → length bytes ≤
 analysed_good bytes name outcome short analysed (inl long) = omega arith
 analysed_good bytes name outcome short analysed (inr fault) = let none : false ≡ true = subst IsSome analysed.1.sound fault in cc
 
+-- a line that was finished is shown
+shown : (a : Answer) (name : List ℕ) (held after : Option (List ℕ)) (before now status : ℕ) → Finishes name a held after before now status → Shows held after before now (line_of name a)
+shown a name held after before now status (inl f) = inl f.1
+shown a name held after before now status (inr f) = inr (f.1, f.2)
+
 module _ (words : List (List ℕ)) (files : List ℕ → Option (List ℕ)) (binary name : List ℕ) (call : IsBoundCall words binary name) (old new : List Row) (held after : Option (List ℕ)) (before now status : ℕ) where
   pub bound : (a : Answer) → Explains (files binary) binary name old new a → Finishes name a held after before now status → status ≡ 0 → (cycles : ℕ) × Prints words files (Appends held after) (Bound cycles)
-  bound (answer.Analysed (Bound cycles)) e f z = (cycles, record { binary = binary; name = name; call = call; analysed = e.2; printed = elim f [ inl t ↦ t.1 | inr t ↦ absurd (omega (arith, t.0)) ] })
+  bound (answer.Analysed (Bound cycles)) e f z = (cycles, record { binary = binary; name = name; call = call; possible = e.1; analysed = e.3; printed = elim f [ inl t ↦ t.1 | inr t ↦ absurd (omega (arith, t.0)) ] })
   bound a e f z = absurd (elim f [ inl t ↦ omega (arith, t.0) | inr t ↦ omega (arith, t.0) ])
 
   pub refused : (a : Answer) → Explains (files binary) binary name old new a → Finishes name a held after before now status → status ≡ 1 → (fault : FaultCode) × Prints words files (Appends held after) (Fault fault)
-  refused (answer.Analysed (Fault fault)) e f z = (fault, record { binary = binary; name = name; call = call; analysed = e.2; printed = elim f [ inl t ↦ t.1 | inr t ↦ absurd (omega (arith, t.0)) ] })
+  refused (answer.Analysed (Fault fault)) e f z = (fault, record { binary = binary; name = name; call = call; possible = e.1; analysed = e.3; printed = elim f [ inl t ↦ t.1 | inr t ↦ absurd (omega (arith, t.0)) ] })
   refused a e f z = absurd (elim f [ inl t ↦ omega (arith, t.0) | inr t ↦ omega (arith, t.0) ])
 
   pub read : (a : Answer) → Explains (files binary) binary name old new a → Finishes name a held after before now status → status ≡ 3 → failed_count false old < failed_count false new
@@ -54,15 +56,22 @@ module _ (words : List (List ℕ)) (files : List ℕ → Option (List ℕ)) (bin
   read (answer.Analysed Memory) e f z = absurd (elim f [ inl t ↦ omega (arith, t.0) | inr t ↦ omega (arith, t.0) ])
   read a e f z = absurd (elim f [ inl t ↦ omega (arith, t.0) | inr t ↦ omega (arith, t.0) ])
 
-  pub read_line : (a : Answer) → Explains (files binary) binary name old new a → Finishes name a held after before now status → status ≡ 3 → AppendsPart held after (codes "read fault\n")
-  read_line answer.ReadFault e f z = elim f [ inl t ↦ whole held after _ t.1 | inr t ↦ t.1 ]
+  pub read_line : (a : Answer) → Explains (files binary) binary name old new a → Finishes name a held after before now status → status ≡ 3 → Shows held after before now (codes "read fault\n")
+  read_line answer.ReadFault e f z = shown answer.ReadFault name held after before now status f
   read_line (answer.Analysed (Bound _)) e f z = absurd (elim f [ inl t ↦ omega (arith, t.0) | inr t ↦ omega (arith, t.0) ])
   read_line (answer.Analysed (Fault _)) e f z = absurd (elim f [ inl t ↦ omega (arith, t.0) | inr t ↦ omega (arith, t.0) ])
   read_line (answer.Analysed Memory) e f z = absurd (elim f [ inl t ↦ omega (arith, t.0) | inr t ↦ omega (arith, t.0) ])
   read_line a e f z = absurd (elim f [ inl t ↦ omega (arith, t.0) | inr t ↦ omega (arith, t.0) ])
 
-  pub file : (a : Answer) → Explains (files binary) binary name old new a → Finishes name a held after before now status → status ≡ 6 → (fault : FaultCode) × Refuses words files (AppendsPart held after) fault
-  file (answer.Refused fault) e f z = (fault, record { binary = binary; name = name; call = call; bad = e.1; printed = elim f [ inl t ↦ whole held after _ t.1 | inr t ↦ t.1 ] })
+  pub memory_line : (a : Answer) → Explains (files binary) binary name old new a → Finishes name a held after before now status → status ≡ 5 → Shows held after before now (codes "memory\n")
+  memory_line answer.Memory e f z = shown answer.Memory name held after before now status f
+  memory_line (answer.Analysed Memory) e f z = absurd e.1
+  memory_line (answer.Analysed (Bound _)) e f z = absurd (elim f [ inl t ↦ omega (arith, t.0) | inr t ↦ omega (arith, t.0) ])
+  memory_line (answer.Analysed (Fault _)) e f z = absurd (elim f [ inl t ↦ omega (arith, t.0) | inr t ↦ omega (arith, t.0) ])
+  memory_line a e f z = absurd (elim f [ inl t ↦ omega (arith, t.0) | inr t ↦ omega (arith, t.0) ])
+
+  pub file : (a : Answer) → Explains (files binary) binary name old new a → Finishes name a held after before now status → status ≡ 6 → (fault : FaultCode) × Refuses words files (Shows held after before now) fault
+  file (answer.Refused fault) e f z = (fault, record { binary = binary; name = name; call = call; possible = e.1; bad = e.2; printed = shown (answer.Refused fault) name held after before now status f })
   file (answer.Analysed (Bound _)) e f z = absurd (elim f [ inl t ↦ omega (arith, t.0) | inr t ↦ omega (arith, t.0) ])
   file (answer.Analysed (Fault _)) e f z = absurd (elim f [ inl t ↦ omega (arith, t.0) | inr t ↦ omega (arith, t.0) ])
   file (answer.Analysed Memory) e f z = absurd (elim f [ inl t ↦ omega (arith, t.0) | inr t ↦ omega (arith, t.0) ])
@@ -75,11 +84,11 @@ module _ (words : List (List ℕ)) (files : List ℕ → Option (List ℕ)) (bin
   bad_file (answer.Refused fault) e f t = inl (elim f [ inl s ↦ s.0 | inr s ↦ s.0 ])
   bad_file (answer.Analysed outcome) e f t =
       let told : files binary ≡ Some t.bytes = ap files (sym (same_file words binary name t.binary t.name call t.call)) ∙ t.told in
-      absurd (analysed_good t.bytes name outcome (subst (λ (o : Option (List ℕ)). IfSome o (λ bytes. length bytes ≤ 16777216)) told e.1) (subst (λ (o : Option (List ℕ)). IfSome o (λ bytes. Analyses bytes name outcome)) told e.2) t.holds)
+      absurd (analysed_good t.bytes name outcome (subst (λ (o : Option (List ℕ)). IfSome o (λ bytes. length bytes ≤ 16777216)) told e.2) (subst (λ (o : Option (List ℕ)). IfSome o (λ bytes. Analyses bytes name outcome)) told e.3) t.holds)
 
   pub write_line : (a : Answer) → Explains (files binary) binary name old new a → Finishes name a held after before now status → status ≡ 4 → (outcome : Outcome) × Prints words files (AppendsPart held after) outcome
-  write_line (answer.Analysed (Bound cycles)) e f z = (Bound cycles, record { binary = binary; name = name; call = call; analysed = e.2; printed = elim f [ inl t ↦ absurd (omega (arith, t.0)) | inr t ↦ t.1 ] })
-  write_line (answer.Analysed (Fault fault)) e f z = (Fault fault, record { binary = binary; name = name; call = call; analysed = e.2; printed = elim f [ inl t ↦ absurd (omega (arith, t.0)) | inr t ↦ t.1 ] })
+  write_line (answer.Analysed (Bound cycles)) e f z = (Bound cycles, record { binary = binary; name = name; call = call; possible = e.1; analysed = e.3; printed = elim f [ inl t ↦ absurd (omega (arith, t.0)) | inr t ↦ t.1 ] })
+  write_line (answer.Analysed (Fault fault)) e f z = (Fault fault, record { binary = binary; name = name; call = call; possible = e.1; analysed = e.3; printed = elim f [ inl t ↦ absurd (omega (arith, t.0)) | inr t ↦ t.1 ] })
   write_line (answer.Analysed Memory) e f z = absurd (elim f [ inl t ↦ omega (arith, t.0) | inr t ↦ omega (arith, t.0) ])
   write_line a e f z = absurd (elim f [ inl t ↦ omega (arith, t.0) | inr t ↦ omega (arith, t.0) ])
 
@@ -98,7 +107,7 @@ module _ (words : List (List ℕ)) (files : List ℕ → Option (List ℕ)) (bin
   complete answer.Memory e f t same quiet = inr (inr (elim f [ inl s ↦ s.0 | inr s ↦ s.0 ]))
   complete (answer.Refused fault) e f t same quiet =
       let told : files binary ≡ Some t.bytes = ap files (sym (same_file words binary name t.binary t.name call t.call)) ∙ t.told in
-      absurd (t.holds (fault_bad t.bytes fault (subst (λ (o : Option (List ℕ)). IfSome o (λ bytes. IsBinaryFault bytes fault)) told e.1)))
+      absurd (t.holds (fault_bad t.bytes fault (subst (λ (o : Option (List ℕ)). IfSome o (λ bytes. IsBinaryFault bytes fault)) told e.2)))
   complete (answer.Analysed (Bound cycles)) e f t same quiet = inl (elim f [ inl s ↦ s.0 | inr s ↦ absurd (quiet s.2) ])
   complete (answer.Analysed (Fault fault)) e f t same quiet = inr (inl (elim f [ inl s ↦ s.0 | inr s ↦ absurd (quiet s.2) ]))
   complete (answer.Analysed Memory) e f t same quiet = inr (inr (elim f [ inl s ↦ s.0 | inr s ↦ s.0 ]))
@@ -113,6 +122,6 @@ pub explained : (told : Option (List ℕ)) (bytes binary name : List ℕ) (old n
 explained told bytes binary name old new same row answer.Usage known = absurd known
 explained told bytes binary name old new same row answer.ReadFault known = absurd known
 explained told bytes binary name old new same row answer.Memory known = inr row
-explained told bytes binary name old new same row (answer.Refused fault) known = (row, read_fact told bytes (λ b. IsBinaryFault b fault) same known)
+explained told bytes binary name old new same row (answer.Refused fault) known = (row, of_binary bytes fault known, read_fact told bytes (λ b. IsBinaryFault b fault) same known)
 explained told bytes binary name old new same row (answer.Analysed outcome) known =
-    (row, read_fact told bytes (λ b. length b ≤ 16777216) same known.0, read_fact told bytes (λ b. Analyses b name outcome) same known.1)
+    (row, of_chain bytes name outcome known.1, read_fact told bytes (λ b. length b ≤ 16777216) same known.0, read_fact told bytes (λ b. Analyses b name outcome) same known.1)

@@ -1,4 +1,5 @@
 mod BoundAnswers
+mod PossibleFaults
 pub mod Answer
 pub mod Definitions
 pub mod Distinct

@@ -47,3 +47,7 @@ unwritten status = status
 abbrev pub Finishes : List ℕ → Answer → Option (List ℕ) → Option (List ℕ) → ℕ → ℕ → ℕ → Type 0
 Finishes name a old new before now status =
     ((status ≡ status_of a) × Appends old new (line_of name a)) ⊎ ((status ≡ unwritten (status_of a)) × AppendsPart old new (line_of name a) × Rose before now)
+
+-- the line stands on the output, or a part of it where the output counted a fault
+abbrev pub Shows : Option (List ℕ) → Option (List ℕ) → ℕ → ℕ → List ℕ → Type 0
+Shows old new before now line = Appends old new line ⊎ (AppendsPart old new line × Rose before now)

@@ -1,12 +1,14 @@
 -- The command `bound`: what is answered for which words and which file.
 use Rattle.std.specs.Prelude.{◌≡◌, ◌<◌, ◌≤◌, ℕ, List, [], ◌∷◌, ◌++◌, length, Option, Some, IsSome, IfSome, ◌⊎◌, true, false}
 use Rattle.wc_base.specs.declared.faults.Fault.{Fault as FaultCode}
-use Rattle.wc_base.specs.declared.faults.Fault.TheVariants.{LongFile}
+use Rattle.wc_base.specs.declared.faults.Fault.TheVariants.{LongFile, Truncated, NotArm, BadTable, NoSymbol, Thumb, Unbuilt}
+use Rattle.wc_base.specs.declared.faults.UnbuiltWord.TheVariants.{Code}
 use Rattle.wc_base.specs.declared.faults.FileWord.TheVariants.{Binary}
 use Rattle.wc_io.specs.Rows.{Row, row_failed}
 use Rattle.wc_io.specs.Reading.{AddsSourceRow}
 use Rattle.wc_model.specs.declared.elf_image.Image.{Image}
 use Rattle.wc_model.specs.declared.values.Outcome.{Outcome}
+use Rattle.wc_model.specs.declared.values.Outcome.TheVariants.{Bound, Fault}
 use Rattle.wc_model.specs.Chain.{chain}
 use Rattle.wc_model.specs.Edits.{bare}
 use Rattle.wc_model.specs.Image.{image_fault, IsImageOf}
@@ -18,6 +20,22 @@ use Rattle.wcet.specs.Words.{IsBoundCall}
 -- the fault of a binary: it is too long, or the first check of its image that fails
 abbrev pub IsBinaryFault : List ℕ → FaultCode → Type 0
 IsBinaryFault bytes fault = ((16777216 < length bytes) × (fault ≡ LongFile Binary)) ⊎ ((length bytes ≤ 16777216) × (image_fault bytes ≡ Some fault))
+
+-- the faults that a binary may have
+abbrev pub IsOfBinary : FaultCode → Type 0
+IsOfBinary (LongFile Binary) = Unit {0}
+IsOfBinary (Truncated _) = Unit {0}
+IsOfBinary (NotArm _) = Unit {0}
+IsOfBinary (BadTable _) = Unit {0}
+IsOfBinary _ = ⊥
+
+-- what the chain may answer: a bound, or a fault of a name or of code
+abbrev pub IsOfChain : Outcome → Type 0
+IsOfChain (Bound _) = Unit {0}
+IsOfChain (Fault NoSymbol) = Unit {0}
+IsOfChain (Fault (Thumb _)) = Unit {0}
+IsOfChain (Fault (Unbuilt Code)) = Unit {0}
+IsOfChain _ = ⊥
 
 abbrev pub IsBadBinary : List ℕ → Type 0
 IsBadBinary bytes = (16777216 < length bytes) ⊎ IsSome (image_fault bytes)
@@ -39,8 +57,8 @@ abbrev pub Explains : Option (List ℕ) → List ℕ → List ℕ → List Row �
 Explains told binary name old new answer.Usage = ⊥
 Explains told binary name old new answer.ReadFault = new ≡ old ++ row_failed binary false true ∷ []
 Explains told binary name old new answer.Memory = (new ≡ old) ⊎ AddsSourceRow binary old new
-Explains told binary name old new (answer.Refused fault) = AddsSourceRow binary old new × IfSome told (λ bytes. IsBinaryFault bytes fault)
-Explains told binary name old new (answer.Analysed outcome) = AddsSourceRow binary old new × IfSome told (λ bytes. length bytes ≤ 16777216) × IfSome told (λ bytes. Analyses bytes name outcome)
+Explains told binary name old new (answer.Refused fault) = AddsSourceRow binary old new × IsOfBinary fault × IfSome told (λ bytes. IsBinaryFault bytes fault)
+Explains told binary name old new (answer.Analysed outcome) = AddsSourceRow binary old new × IsOfChain outcome × IfSome told (λ bytes. length bytes ≤ 16777216) × IfSome told (λ bytes. Analyses bytes name outcome)
 
 -- The clauses of the call.
 
@@ -49,6 +67,7 @@ pub record Prints (words : List (List ℕ)) (files : List ℕ → Option (List �
   pub binary : List ℕ
   pub name : List ℕ
   pub call : IsBoundCall words binary name
+  pub possible : IsOfChain outcome
   pub analysed : IfSome (files binary) (λ bytes. Analyses bytes name outcome)
   pub printed : writes (outcome_line name outcome)
 
@@ -69,6 +88,7 @@ pub record Refuses (words : List (List ℕ)) (files : List ℕ → Option (List 
   pub binary : List ℕ
   pub name : List ℕ
   pub call : IsBoundCall words binary name
+  pub possible : IsOfBinary fault
   pub bad : IfSome (files binary) (λ bytes. IsBinaryFault bytes fault)
   pub printed : writes (refusal fault)
 

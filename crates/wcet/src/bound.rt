@@ -7,6 +7,7 @@ ghost use Rattle.wc_io.specs.Writing.{AppendsPart};
 ghost use Rattle.wc_model.specs.declared.values.Outcome.{Outcome as OutcomeOf};
 ghost use Rattle.wc_model.specs.Chain.{chain as chain_of};
 ghost use Rattle.wc_model.specs.Edits.{bare, default_hardware as default_hardware_of};
+ghost use Rattle.wcet.specs.Answers.{Shows};
 ghost use Rattle.wcet.specs.BoundCall.{Analysed, Explains, Prints, IsBadBinary, IsTold, IsReadable, Refuses, Opens};
 ghost use Rattle.wcet.specs.Words.{IsFaultyCall};
 
@@ -95,21 +96,21 @@ pub fn bound_once<R: Threads + Sync, H: House, K: Sink>(
 
     // 2: exactly where the words are of no known form.
     ensures usage { (result ≡ 2) ↔ IsFaultyCall (map string_bytes words.now) }
-    ensures usage_line { result ≡ 2 → AppendsPart (K.held out.old) (K.held out.new) (codes "usage\n") }
+    ensures usage_line { result ≡ 2 → Shows (K.held out.old) (K.held out.new) (K.faults out.old) (K.faults out.new) (codes "usage\n") }
 
     // 3: only where one more source of the house failed.
     ensures read { result ≡ 3 → failed_count false (H.opened house.old) < failed_count false (H.opened house.new) }
-    ensures read_line { result ≡ 3 → AppendsPart (K.held out.old) (K.held out.new) (codes "read fault\n") }
+    ensures read_line { result ≡ 3 → Shows (K.held out.old) (K.held out.new) (K.faults out.old) (K.faults out.new) (codes "read fault\n") }
 
     // 4: only where the output failed.
     ensures write { result ≡ 4 → Rose (K.faults out.old) (K.faults out.new) }
     ensures write_line { result ≡ 4 → (outcome : OutcomeOf) × Prints (map string_bytes words.now) (H.file house.old) (AppendsPart (K.held out.old) (K.held out.new)) outcome }
 
     // 5: want of memory, which may come at any time.
-    ensures memory_line { result ≡ 5 → AppendsPart (K.held out.old) (K.held out.new) (codes "memory\n") }
+    ensures memory_line { result ≡ 5 → Shows (K.held out.old) (K.held out.new) (K.faults out.old) (K.faults out.new) (codes "memory\n") }
 
     // 6: exactly where the binary has a fault.
-    ensures file { result ≡ 6 → (fault : FaultCode) × Refuses (map string_bytes words.now) (H.file house.old) (AppendsPart (K.held out.old) (K.held out.new)) fault }
+    ensures file { result ≡ 6 → (fault : FaultCode) × Refuses (map string_bytes words.now) (H.file house.old) (Shows (K.held out.old) (K.held out.new) (K.faults out.old) (K.faults out.new)) fault }
     ensures bad_file { IsTold (map string_bytes words.now) (H.file house.old) IsBadBinary → (result ≡ 6) ⊎ ((result ≡ 3) ⊎ (result ≡ 5)) }
 
     // With a readable binary and no fault of the outside the chain is answered.

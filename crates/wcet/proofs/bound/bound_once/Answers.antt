@@ -1,4 +1,4 @@
-use Rattle.wcet.proofs.BoundAnswers.{bound, refused, read, read_line, file, bad_file, write_line, complete}
+use Rattle.wcet.proofs.BoundAnswers.{bound, refused, read, read_line, memory_line, file, bad_file, write_line, complete}
 use Rattle.wcet.proofs.bound.bound_once.Goals as goal
 
 pub returns-in-Some-clause-bound : goal.returns-in-Some-clause-bound
@@ -28,3 +28,6 @@ returns-in-None-clause-complete g c told same quiet = absurd (c.in-None.ensures 
 
 pub returns-in-Some-clause-write_line : goal.returns-in-Some-clause-write_line
 returns-in-Some-clause-write_line g c = write_line _ (g.H.House.file c.args.house.now) _ _ c.in-Some.ensures _ _ _ _ _ _ _ _ c.answer_to-answer.ensures.answer c.finish-in-Some.ensures
+
+pub returns-in-Some-clause-memory_line : goal.returns-in-Some-clause-memory_line
+returns-in-Some-clause-memory_line g c = memory_line _ (g.H.House.file c.args.house.now) _ _ c.in-Some.ensures _ _ _ _ _ _ _ _ c.answer_to-answer.ensures.answer c.finish-in-Some.ensures
