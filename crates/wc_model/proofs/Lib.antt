@@ -1,3 +1,4 @@
+pub mod Agreeing
 pub mod Greatest
 pub mod Leaving
 pub mod Orders

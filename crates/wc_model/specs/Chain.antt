@@ -1,5 +1,5 @@
 -- The outcome of the analysis of one function, from the inputs alone.
-use Rattle.std.specs.Prelude.{ℕ, ◌≡◌, ◌≤◌, ◌⊎◌, List, length, map, Option, None, Some, Result, Ok, Err, All, AllPairs, IsSome}
+use Rattle.std.specs.Prelude.{ℕ, ◌≡◌, ◌≤◌, List, length, map, Option, None, Some, Ok, Err, All, AllPairs, IsSome}
 use Rattle.wc_base.specs.declared.faults.Fault.{Fault}
 use Rattle.wc_base.specs.declared.faults.Fault.TheVariants.{Unbuilt}
 use Rattle.wc_base.specs.declared.faults.UnbuiltWord.TheVariants.{Code}

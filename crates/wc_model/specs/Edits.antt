@@ -1,5 +1,5 @@
 -- The inputs of a bound, what an edit of them touches, and the inputs after some edits.
-use Rattle.std.specs.Prelude.{ℕ, if◌then◌else◌, ◌+◌, Bool, true, false, not, ◌&&◌, ◌==◌, List, [], ◌∷◌, ◌++◌, take, filter, map, Option, None, Some, ◌≡◌, refl, IsTrue}
+use Rattle.std.specs.Prelude.{ℕ, if◌then◌else◌, ◌+◌, Bool, true, false, not, ◌&&◌, ◌==◌, List, [], ◌∷◌, ◌++◌, take, filter, Option, None, Some, ◌≡◌, refl, IsTrue}
 use Rattle.std.proofs.Common.{lit≤}
 use Rattle.wc_model.specs.declared.elf_image.Image.{Image}
 use Rattle.wc_model.specs.declared.entries.Entry.{Entry}

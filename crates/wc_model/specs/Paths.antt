@@ -1,5 +1,5 @@
 -- Paths from the start of a function to its exit, and what they cost.
-use Rattle.std.specs.Prelude.{ℕ, ◌≡◌, ◌+◌, ◌*◌, Bool, true, false, if◌then◌else◌, List, [], ◌∷◌, Option, None, Some, Contains}
+use Rattle.std.specs.Prelude.{ℕ, ◌≡◌, ◌+◌, ◌*◌, Bool, if◌then◌else◌, List, [], ◌∷◌, Option, None, Some, Contains}
 use Rattle.wc_model.specs.declared.elf_image.Image.{Image}
 use Rattle.wc_model.specs.declared.flow_facts.Fact.{Fact}
 use Rattle.wc_model.specs.declared.instructions.Class.{Class}

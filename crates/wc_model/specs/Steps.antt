@@ -1,6 +1,6 @@
 -- The steps of a position: where the instruction there may lead. After the branches, calls and returns of the
 -- ARM ARM, with calls expanded.
-use Rattle.std.specs.Prelude.{ℕ, ◌+◌, ◌%◌, ◌^◌, ◌==◌, ◌&&◌, ◌||◌, Bool, true, false, nat_lt, if◌then◌else◌, List, [], ◌∷◌, ◌++◌, map, Option, None, Some, option_and_then}
+use Rattle.std.specs.Prelude.{ℕ, ◌+◌, ◌%◌, ◌^◌, ◌==◌, ◌||◌, Bool, true, false, nat_lt, if◌then◌else◌, List, [], ◌∷◌, ◌++◌, map, Option, None, Some, option_and_then}
 use Rattle.std.specs.List.{flat_map, list_any}
 use Rattle.wc_base.specs.declared.faults.Fault.{Fault}
 use Rattle.wc_base.specs.declared.faults.Fault.TheVariants.{OutOfText, UnknownInstruction, Unresolved, Recursion}
@@ -9,7 +9,7 @@ use Rattle.wc_model.specs.declared.instructions.Control.{Control}
 use Rattle.wc_model.specs.declared.instructions.Control.TheVariants.{Next, Jump, Call as CallTo, Return, IndirectJump, IndirectCall}
 use Rattle.wc_model.specs.declared.instructions.Insn.{Insn}
 use Rattle.wc_model.specs.declared.flow_facts.Fact.{Fact}
-use Rattle.wc_model.specs.declared.flow_facts.Fact.TheVariants.{Loop, Multibranch, Multicall, Noreturn, Checksum, Limit}
+use Rattle.wc_model.specs.declared.flow_facts.Fact.TheVariants.{Multibranch, Multicall, Noreturn}
 use Rattle.wc_model.specs.Words.{word_at}
 use Rattle.wc_model.specs.Instruction.{insn_of}
 use Rattle.wc_model.specs.Positions.{Call, Position}
