@@ -22,10 +22,10 @@ Appends_next a b c text rest done n is first next =
 pub next_within : (text rest : List ℕ) (done n : ℕ) → rest ≡ drop done text → done ≤ length text → n ≤ length rest → done + n ≤ length text
 next_within text rest done n is below few = omega (arith, ap length is, length-drop done text)
 
--- a prefix of the front is a prefix of the whole
+-- a shorter prefix of the front is one of the whole
 pub part_longer : (a b : Option (List ℕ)) (front rest : List ℕ) → AppendsPart a b front → AppendsPart a b (front ++ rest)
 part_longer a b front rest (n, few, written) =
-    (n, omega (arith, length-append front rest), subst (λ (t : List ℕ). Appends a b t) (sym (take-append-le n front rest few)) written)
+    (n, omega (arith, length-append front rest), subst (λ (t : List ℕ). Appends a b t) (sym (take-append-le n front rest (omega arith))) written)
 
 -- what is written after the front is written behind it
 pub part_after : (a b c : Option (List ℕ)) (front rest : List ℕ) → Appends a b front → AppendsPart b c rest → AppendsPart a c (front ++ rest)

@@ -1,11 +1,11 @@
 -- What a call that writes a text leaves on its sink.
-use Rattle.std.specs.Prelude.{ℕ, ◌≤◌, List, length, take, Option, Result, MatchResult}
+use Rattle.std.specs.Prelude.{ℕ, ◌<◌, List, length, take, Option, Result, MatchResult}
 use Rattle.std.specs.Io.KnownBytes.{Appends}
 
--- a prefix of the text was appended
+-- a prefix of the text was appended, and some of it is missing
 abbrev pub AppendsPart : Option (List ℕ) → Option (List ℕ) → List ℕ → Type 0
-AppendsPart old new text = (n : ℕ) × (n ≤ length text) × Appends old new (take n text)
+AppendsPart old new text = (n : ℕ) × (n < length text) × Appends old new (take n text)
 
--- the whole text was appended, or after a failure a prefix of it
+-- the whole text was appended, or after a failure a prefix of it that is shorter
 abbrev pub Writes : {E : Type 0} → Option (List ℕ) → Option (List ℕ) → Result (Unit {0}) E → List ℕ → Type 0
 Writes old new result text = MatchResult result (λ _. Appends old new text) (λ _. AppendsPart old new text)

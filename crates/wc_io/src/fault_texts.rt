@@ -112,7 +112,7 @@ fn write_tail<K: Sink>(sink: &mut K, tail: Tail) -> Result<(), Failed>
     }
 }
 
-/// Appends the text of a fault.
+/// Appends the text of a fault. After `Failed` a shorter prefix of it was appended.
 pub fn write_fault<K: Sink>(sink: &mut K, fault: &Fault) -> Result<(), Failed>
     ensures text { Writes (K.held sink.old) (K.held sink.new) result (fault_text fault.now) }
     ensures cause { HasCause (K.faults sink.old) (K.faults sink.new) result }

@@ -1,6 +1,5 @@
-ghost use Rattle.std.specs.Prelude.{◌≡◌, ℕ, ◌<◌, ◌≤◌, List, false, true, length, IfOk, IfSome, IsErrOf};
+ghost use Rattle.std.specs.Prelude.{◌≡◌, ℕ, ◌<◌, ◌≤◌, List, length, IfOk, OnOk, IfSome, IsSome, IsErrOf, IsTrue};
 ghost use Rattle.wc_io.specs.Reading.{AddsReadRow};
-ghost use Rattle.wc_io.specs.Rows.{failed_count};
 
 use crate::{House, HouseError, ReadWhole, read_whole};
 use std::alloc::{AllocError, Global};
@@ -18,7 +17,8 @@ pub enum ReadFile {
 }
 
 /// The bytes of the file of a path, of which there are at most `most`. The house's list gains the path as a source,
-/// or nothing where the house had no memory to open it.
+/// or nothing where the house had no memory to open it. Of a house that tells its files nothing is read, and nothing
+/// is too long, that isn't there.
 pub fn read_file<H: House>(
     alloc: Global,
     house: &mut H,
@@ -28,6 +28,8 @@ pub fn read_file<H: House>(
     ensures bytes { IfOk result (λ v. IfSome (H.file house.old path.now) (λ all. v.items ≡ all)) }
     ensures short { IfOk result (λ v. length v.items ≤ most) }
     ensures long { IsErrOf result ReadFile.Long → IfSome (H.file house.old path.now) (λ all. most < length all) }
+    ensures there { OnOk result (IsTrue (H.tells house.old) → IsSome (H.file house.old path.now)) }
+    ensures long_there { IsErrOf result ReadFile.Long → IsTrue (H.tells house.old) → IsSome (H.file house.old path.now) }
     ensures row { AddsReadRow path.now (H.opened house.old) (H.opened house.new) result }
     ensures files { (p : List ℕ) → H.file house.new p ≡ H.file house.old p }
     ensures tells { H.tells house.new ≡ H.tells house.old }

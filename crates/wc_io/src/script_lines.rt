@@ -123,6 +123,7 @@ impl<S: Source> Lines<S> {
         ensures next { IfSome self.old.rest (λ results. Gives result results self.new) }
         ensures line { IsLineAfter result self.old.line self.new.line }
         ensures count { self.new.count ≡ (if goes_on result then self.old.count + 1 else self.old.count) }
+        ensures few { self.new.count ≤ 10000 }
         ensures ended { self.new.ended ≡ not (goes_on result) }
         ensures fault { result ≡ LineRead.ReadFault → Rose self.old.faults self.new.faults }
         ensures later { self.old.faults ≤ self.new.faults }

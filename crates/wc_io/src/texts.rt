@@ -48,7 +48,7 @@ pub fn address(at: u32) -> [u8; 10]
     ]
 }
 
-/// Appends a decimal number.
+/// Appends a decimal number. After `Failed` a shorter prefix of its digits was appended.
 pub fn write_decimal<K: Sink>(sink: &mut K, number: u128) -> Result<(), Failed>
     ensures text { Writes (K.held sink.old) (K.held sink.new) result (decimal number) }
     ensures cause { HasCause (K.faults sink.old) (K.faults sink.new) result }
@@ -71,7 +71,7 @@ fn write_piece<K: Sink>(sink: &mut K, piece: &Piece) -> Result<(), Failed>
     }
 }
 
-/// Appends a text given in pieces. After `Failed` a prefix of it was appended.
+/// Appends a text given in pieces. After `Failed` a prefix of it was appended, which is shorter than the text.
 pub fn write_pieces<K: Sink>(sink: &mut K, pieces: &[Piece]) -> Result<(), Failed>
     ensures text { Writes (K.held sink.old) (K.held sink.new) result (flat_map text_of pieces.now) }
     ensures cause { HasCause (K.faults sink.old) (K.faults sink.new) result }

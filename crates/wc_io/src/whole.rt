@@ -52,7 +52,7 @@ pub fn read_whole<S: Source>(
     }
 }
 
-/// Appends the whole text. After `Failed` a prefix of it was appended.
+/// Appends the whole text. After `Failed` a prefix of it was appended, which is shorter than the text.
 pub fn write_whole<K: Sink>(sink: &mut K, text: &[u8]) -> Result<(), Failed>
     ensures text { Writes (K.held sink.old) (K.held sink.new) result text.now }
     ensures cause { HasCause (K.faults sink.old) (K.faults sink.new) result }
