@@ -1,5 +1,6 @@
 -- Parts that were appended one after the other.
-use Rattle.std.proofs.Common.{◌≡◌, ℕ, ◌+◌, ◌<◌, List, [], ◌∷◌, ◌++◌, refl, sym, ap, ◌∙◌, append_assoc, length, drop, get_or, drop-cons, add-one, arith}
+use Rattle.std.proofs.Common.{◌≡◌, ℕ, ◌+◌, ◌^◌, ◌<◌, List, [], ◌∷◌, ◌++◌, refl, sym, ap, subst, ◌∙◌, append_assoc, length, drop, get_or, drop-cons, add-one, below_more, arith}
+use Rattle.std.proofs.lemmas.List.{get_or_read}
 use Rattle.wc_asm.specs.Files.{names_size, symbol, symbols_from}
 
 pub six_parts : (n0 n1 n2 n3 n4 n5 n6 h p w y s z t : List ℕ) → n0 ≡ [] → n1 ≡ n0 ++ (h ++ p) → n2 ≡ n1 ++ w → n3 ≡ n2 ++ y → n4 ≡ n3 ++ s → n5 ≡ n4 ++ z → n6 ≡ n5 ++ t → n6 ≡ h ++ (p ++ (w ++ (y ++ (s ++ (z ++ t)))))
@@ -22,6 +23,12 @@ symbols_turn names index place name text old new all more is same written before
     ∙ append_assoc old (symbol place name.1) (symbols_from (place + (length name.0 + 1)) (drop (index + 1) names))
     ∙ ap (λ r. old ++ symbols_from place r) (sym (names_next names index name more is))
     ∙ before
+
+-- what holds of the names before the index and of the name there
+pub addresses_turn : (names : List (List ℕ × ℕ)) (index : ℕ) (name : List ℕ × ℕ) → index < length names → name ≡ get_or names index name → name.1 < 2 ^ 32
+    → ((k : ℕ) (d : List ℕ × ℕ) → k < index → (get_or names k d).1 < 2 ^ 32) → (k : ℕ) (d : List ℕ × ℕ) → k < index + 1 → (get_or names k d).1 < 2 ^ 32
+addresses_turn names index name more is small before k d few =
+    below_more (λ j. (e : List ℕ × ℕ) → (get_or names j e).1 < 2 ^ 32) index (λ j below e. before j e below) (λ e. subst (λ (n : List ℕ × ℕ). n.1 < 2 ^ 32) (get_or_read names index name more is e) small) k few d
 
 pub size_turn : (names : List (List ℕ × ℕ)) (index place : ℕ) (name : List ℕ × ℕ) (text : List ℕ) (all : ℕ) → index < length names → name ≡ get_or names index name → text ≡ name.0 → place + names_size (drop index names) ≡ all → place + (length text + 1) + names_size (drop (index + 1) names) ≡ all
 size_turn names index place name text all more is same before =

@@ -1,2 +1,11 @@
 pub mod Appends
+pub mod CodeWords
+pub mod FileParts
+pub mod Labels
+pub mod Lookups
+pub mod Openings
+pub mod Parts
+pub mod Passes
 pub mod ReadBack
+pub mod Tables
+pub mod WholeFiles

@@ -1,4 +1,5 @@
 pub mod Canonical
 pub mod Files
+pub mod Images
 pub mod Layouts
 pub mod Readings

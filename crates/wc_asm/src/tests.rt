@@ -1,9 +1,15 @@
+ghost use Rattle.std.specs.Prelude.{IfOk, IsTrue};
+ghost use Rattle.wc_base.specs.Troubles.{IfFault};
+ghost use Rattle.wc_asm.specs.Files.{is_writable_of};
+ghost use Rattle.wc_asm.specs.Images.{IsProgramImage};
+
 use crate::{Program, is_writable, word_of, write_elf};
 use std::alloc::Global;
 use std::test::Fail;
 use wc_a32::insn;
+use wc_base::Trouble;
 use wc_elf::{find, read_image};
-use wc_model::{Class, Control, Insn, Table, Text};
+use wc_model::{Class, Control, Image, Insn, Table, Text};
 
 /// The words E3A00001 E12FFF1E at 0x8000, with the name `f` there.
 const FILE: [u8; 248] = [
@@ -69,6 +75,19 @@ fn writes_the_example_byte_for_byte(rt: HostRuntime) -> Result<(), Fail> {
     Ok(())
 }
 
+/// What is read of the program's file. Both contracts together say that it is the program.
+fn written_and_read(alloc: Global, program: &Program) -> Result<Image, Trouble>
+    requires { IsTrue (is_writable_of program.now) }
+    ensures image { IfOk result (IsProgramImage program.now) }
+    ensures sound { IfFault result (λ fault. ⊥) }
+{
+    let file = match write_elf(alloc, program) {
+        Ok(file) => file,
+        Err(error) => return Err(Trouble::Memory(error)),
+    };
+    read_image(alloc, file)
+}
+
 #[test]
 fn reads_what_it_wrote(rt: HostRuntime) -> Result<(), Fail> {
     let alloc = rt.alloc();
@@ -96,7 +115,7 @@ fn reads_what_it_wrote(rt: HostRuntime) -> Result<(), Fail> {
         let written = program(alloc, start, words, names)?;
         let writable = is_writable(&written);
         assert!(rt; writable);
-        let image = read_image(alloc, write_elf(alloc, &written)?)?;
+        let image = written_and_read(alloc, &written)?;
         let mut at = start;
         for word in words {
             assert_eq!(rt; image.word(at), Some(*word));

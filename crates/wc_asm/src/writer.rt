@@ -1,6 +1,7 @@
-ghost use Rattle.std.specs.Prelude.{◌≡◌, ◌++◌, ◌<◌, ◌-◌, ◌^◌, IfOk, IsTrue, OnOk, replicate};
+ghost use Rattle.std.specs.Prelude.{◌≡◌, ◌++◌, ◌<◌, ◌-◌, ◌^◌, All, IfOk, IsTrue, OnOk, replicate};
 ghost use Rattle.byteorder.specs.Endian.{little_bytes};
 ghost use Rattle.wc_asm.specs.Files.{file_header, file_of, halves, is_writable_of, names_size, program_header, section_headers, string_table, symbol, symbol_table, words};
+ghost use Rattle.wc_asm.specs.Images.{IsReadBack};
 
 use crate::layout::layout_of;
 use crate::program::Program;
@@ -15,7 +16,8 @@ const SHN_ABS: u16 = 0xFFF1;
 const GLOBAL_FUNCTION: u8 = 0x12;
 
 fn put_words(file: &mut Vec<u8>, values: &[u32]) -> Result<(), AllocError>
-    ensures { OnOk result (file.new.items ≡ file.old.items ++ words values.now) }
+    ensures words { OnOk result (file.new.items ≡ file.old.items ++ words values.now) }
+    ensures numbers { All (λ value. value < 2 ^ 32) values.now }
 {
     for value in values {
         file.extend_from_slice(&value.to_le_bytes())?;
@@ -44,7 +46,8 @@ fn put_headers(file: &mut Vec<u8>, start: Addr, sections: u32, size: u32) -> Res
 }
 
 fn put_symbol(file: &mut Vec<u8>, name: u32, value: Addr) -> Result<(), AllocError>
-    ensures { OnOk result (file.new.items ≡ file.old.items ++ symbol name value) }
+    ensures symbol { OnOk result (file.new.items ≡ file.old.items ++ symbol name value) }
+    ensures address { value < 2 ^ 32 }
 {
     put_words(file, &[name, value, 0])?;
     file.extend_from_slice(&[GLOBAL_FUNCTION, 0])?;
@@ -54,7 +57,8 @@ fn put_symbol(file: &mut Vec<u8>, name: u32, value: Addr) -> Result<(), AllocErr
 
 fn put_symbols(file: &mut Vec<u8>, names: &[(Text, Addr)]) -> Result<(), AllocError>
     requires { names_size names.now < 2 ^ 32 - 1 }
-    ensures { OnOk result (file.new.items ≡ file.old.items ++ symbol_table names.now) }
+    ensures table { OnOk result (file.new.items ≡ file.old.items ++ symbol_table names.now) }
+    ensures addresses { OnOk result (All (λ name. name.1 < 2 ^ 32) names.now) }
 {
     put_words(file, &[0, 0, 0, 0])?;
     let mut place = 1u32;
@@ -100,10 +104,12 @@ fn put_padding(file: &mut Vec<u8>, count: u32) -> Result<(), AllocError>
     Ok(())
 }
 
-/// The program as an ELF file.
+/// The program as an ELF file. A reader of ELF files refuses nothing of it, and finds the program's words in
+/// one range and its names in their order, each a function at the program's address.
 pub fn write_elf(alloc: Global, program: &Program) -> Result<Vec<u8>, AllocError>
     requires { IsTrue (is_writable_of program.now) }
     ensures bytes { IfOk result (λ file. file.items ≡ file_of program.now) }
+    ensures read_back { IfOk result (λ file. IsReadBack program.now file.items) }
 {
     let mut file = Vec::new(alloc);
     let Some(layout) = layout_of(program) else {
