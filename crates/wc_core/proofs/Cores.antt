@@ -1,27 +1,25 @@
 -- How the core's invariant goes on with each entry.
-use Rattle.std.proofs.Common.{◌≡◌, ℕ, zero, suc, ◌+◌, ◌≤◌, Bool, true, false, not, ◌&&◌, ◌||◌, ◌==◌, List, [], ◌∷◌, ◌++◌, length, take, drop, map, Option, None, Some, is_none, nat_le, refl, sym, ap, subst, ◌∙◌, arith, length-append, IfSome, if◌then◌else◌}
+use Rattle.std.proofs.Common.{◌≡◌, ℕ, suc, ◌+◌, ◌≤◌, Bool, true, false, ◌&&◌, List, [], ◌∷◌, ◌++◌, length, take, map, Option, None, Some, is_none, nat_le, refl, sym, ap, subst, ◌∙◌, arith, length-append, IfSome, if◌then◌else◌}
 use Rattle.std.proofs.lemmas.List.{append-nil}
 use Rattle.std.proofs.lemmas.Bool.{leb-true}
 use Rattle.std.proofs.Math.Seq.{take-length}
 use Rattle.wc_model.specs.declared.elf_image.Image.{Image}
-use Rattle.wc_model.specs.declared.entries.End.TheVariants.{Kept as KeptEnd, Memory}
 use Rattle.wc_model.specs.declared.entries.Entry.{Entry}
-use Rattle.wc_model.specs.declared.entries.Entry.TheVariants.{Edit as EditEntry, NoFact, Pin, Start, Finish, Answer, List as ListEntry}
+use Rattle.wc_model.specs.declared.entries.Entry.TheVariants.{Edit as EditEntry, NoFact, Pin, List as ListEntry}
 use Rattle.wc_model.specs.declared.flow_facts.Fact.{Fact}
 use Rattle.wc_model.specs.declared.inputs.Edit.{Edit}
 use Rattle.wc_model.specs.declared.machine.Hardware.{Hardware}
-use Rattle.wc_model.specs.declared.values.Outcome.{Outcome}
-use Rattle.wc_model.specs.Closures.{touches_any, last_touch, has_kind}
+use Rattle.wc_model.specs.Closures.{touches_any, last_touch}
 use Rattle.wc_model.specs.Edits.{Setting, bare, all_edited, edited, edits_of, edit_of, after_edits, AgreeOnAll}
-use Rattle.wc_model.specs.History.{Opening, State, Row, Run, Ask, Chain, IsLegal, IsRight, EachRight, state_after, step, is_free, open_ask, own_run, can_edit, is_live, bound_kind}
+use Rattle.wc_model.specs.History.{Opening, State, Row, Run, Ask, Chain, IsLegal, IsRight, state_after, step, is_free, can_edit, is_live}
 use Rattle.wc_model.proofs.Replays.{Kept, kept_snoc, kept_is_legal, edits_of-snoc, all_edited-append, last_touch-append}
 use Rattle.wc_model.proofs.Untouched.{agree_untouched}
 use Rattle.wc_core.specs.declared.store.Slot.{Slot}
 use Rattle.wc_core.specs.Answers.{LeavesFree, inputs_now}
 use Rattle.wc_core.specs.Features.{Each}
-use Rattle.wc_core.specs.Holds.{all_parts, plain_opening, plain_state, row_of, emptied, slots_after, stamp_after, has_value, AreFeatures, IsTurnOf, IsCore, entries_needed}
+use Rattle.wc_core.specs.Holds.{all_parts, plain_opening, plain_state, row_of, emptied, slots_after, stamp_after, AreFeatures, IsTurnOf, IsCore, entries_needed}
 use Rattle.wc_core.specs.Views.{value_of}
-use Rattle.wc_core.proofs.Steps.{step_edit, step_nofact, step_list, step_pin, step_start, step_kept, step_memory, step_no_memory, step_reached}
+use Rattle.wc_core.proofs.Steps.{step_edit, step_nofact, step_list, step_pin}
 
 pub some_same : {A : Type 0} (a b : A) → Some a ≡ Some b → a ≡ b
 some_same a b p = cc

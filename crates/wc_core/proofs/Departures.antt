@@ -1,5 +1,5 @@
 -- What an answer and a start owe, over what the code made.
-use Rattle.std.proofs.Common.{◌≡◌, ℕ, zero, suc, ◌+◌, ◌-◌, ◌^◌, ◌<◌, ◌≤◌, Bool, true, false, ◌||◌, List, [], ◌∷◌, ◌++◌, length, map, Option, None, Some, MatchOption, refl, sym, ap, subst, ◌∙◌, arith}
+use Rattle.std.proofs.Common.{◌≡◌, ℕ, ◌+◌, ◌≤◌, Bool, true, false, ◌||◌, List, [], ◌∷◌, ◌++◌, length, map, Option, None, Some, MatchOption, refl, sym, ap, subst, ◌∙◌}
 use Rattle.wc_model.specs.declared.elf_image.Image.{Image}
 use Rattle.wc_model.specs.declared.entries.Entry.{Entry}
 use Rattle.wc_model.specs.declared.entries.Entry.TheVariants.{Start, Answer}
@@ -9,17 +9,16 @@ use Rattle.wc_model.specs.declared.machine.Hardware.{Hardware}
 use Rattle.wc_model.specs.declared.values.Outcome.{Outcome}
 use Rattle.wc_model.specs.declared.values.Outcome.TheVariants.{Bound, Fault, Memory}
 use Rattle.wc_model.specs.Closures.{requires_of, has_kind}
-use Rattle.wc_model.specs.Edits.{Setting, after, edits_of}
+use Rattle.wc_model.specs.Edits.{Setting, after}
 use Rattle.wc_model.specs.History.{Opening, Chain, IsLegal, bound_kind}
 use Rattle.wc_core.specs.declared.store.Slot.{Slot}
-use Rattle.wc_core.specs.Answers.{LeavesFree}
 use Rattle.wc_core.specs.Features.{Each, Tells}
 use Rattle.wc_core.specs.Fits.{FitsTicket, FitsFlight}
 use Rattle.wc_core.specs.Holds.{plain_opening, bound_alone, is_reached, AreFeatures, IsCore}
 use Rattle.wc_core.specs.Turns.{answers, starts, IsTurn, OutcomeIs}
 use Rattle.wc_core.specs.Views.{Known, KnownTicket, KnownFlight, ask_of}
 use Rattle.wc_core.proofs.Cores.{IsOne, core_inputs_at}
-use Rattle.wc_core.proofs.Turning.{Answers, Starts, flight_of, core_asked, core_answer, core_start, has_room, turn_answers, turn_starts}
+use Rattle.wc_core.proofs.Turning.{Answers, Starts, core_asked, core_answer, core_start, has_room, turn_answers, turn_starts}
 
 pub done_all : {V : Type 0} (chain : Chain) (feature : ℕ → Setting → List ℕ → V → Type 0) (image : Image) (hardware : Hardware) (facts : List Fact) (h : List Entry) (inputs : Setting) (count stamp : ℕ) (slots : List (Slot V)) (home : List ℕ) (room : ℕ) (t : KnownTicket V) (outcome : Outcome) (k : Known) (entries : List Entry)
     → record { opening = plain_opening image hardware facts; history = h } ≡ k

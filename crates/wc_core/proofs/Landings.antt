@@ -1,7 +1,6 @@
 -- What comes home: a value that is kept, or want of memory.
-use Rattle.std.proofs.Common.{◌≡◌, ℕ, zero, suc, ◌+◌, ◌-◌, ◌<◌, ◌≤◌, Bool, true, false, not, ◌&&◌, ◌||◌, ◌==◌, List, [], ◌∷◌, ◌++◌, length, take, drop, map, Option, None, Some, IfSome, nat_le, refl, sym, ap, subst, ◌∙◌, arith, length-append, if◌then◌else◌}
+use Rattle.std.proofs.Common.{◌≡◌, ℕ, suc, ◌+◌, ◌≤◌, Bool, true, false, ◌||◌, List, [], ◌∷◌, ◌++◌, length, drop, map, Option, None, Some, IfSome, nat_le, refl, sym, ap, subst, ◌∙◌, arith, length-append, if◌then◌else◌}
 use Rattle.std.proofs.lemmas.List.{append-nil}
-use Rattle.std.proofs.lemmas.Bool.{leb-true}
 use Rattle.std.proofs.lemmas.Bool.Decides.{leb_tells}
 use Rattle.std.specs.Cmp.Lexicographic.{same_text}
 use Rattle.std.specs.Global.{Global}
@@ -12,16 +11,16 @@ use Rattle.wc_model.specs.declared.entries.Entry.{Entry}
 use Rattle.wc_model.specs.declared.entries.Entry.TheVariants.{Finish}
 use Rattle.wc_model.specs.declared.flow_facts.Fact.{Fact}
 use Rattle.wc_model.specs.declared.machine.Hardware.{Hardware}
-use Rattle.wc_model.specs.Closures.{has_kind, last_touch}
-use Rattle.wc_model.specs.Edits.{Setting, bare, after_edits, edits_of}
-use Rattle.wc_model.specs.History.{Opening, State, Row, Run, Ask, Chain, IsLegal, state_after, open_ask, own_run, ask_at, is_session, inputs_at, same_name, with_room, bound_kind}
+use Rattle.wc_model.specs.Closures.{has_kind}
+use Rattle.wc_model.specs.Edits.{Setting, after_edits, edits_of}
+use Rattle.wc_model.specs.History.{Opening, State, Row, Run, Ask, Chain, IsLegal, open_ask, own_run, ask_at, is_session, inputs_at, same_name, with_room, bound_kind}
 use Rattle.wc_model.proofs.Replays.{Kept}
 use Rattle.wc_core.specs.declared.store.Slot.{Slot}
 use Rattle.wc_core.specs.Features.{Each}
 use Rattle.wc_core.specs.Fits.{FitsTicket, FitsLanded, run_of, names_needed}
-use Rattle.wc_core.specs.Holds.{all_parts, plain_opening, plain_state, row_of, has_value, has_slot, filled, with_value, AreFeatures, IsTurnOf, IsCore, entries_needed}
+use Rattle.wc_core.specs.Holds.{plain_opening, plain_state, row_of, has_value, has_slot, filled, with_value, AreFeatures, IsTurnOf, IsCore, entries_needed}
 use Rattle.wc_core.specs.Views.{KnownTicket, KnownLanded, ask_of, value_of}
-use Rattle.wc_core.proofs.Cores.{grown, rebuilt, kept_of, core_legal, core_inputs_at, ran_more, some_same}
+use Rattle.wc_core.proofs.Cores.{grown, rebuilt, kept_of, core_legal, core_inputs_at, some_same}
 use Rattle.wc_core.proofs.Steps.{step_kept, step_memory}
 use Rattle.wc_core.proofs.Turning.{if_some, session_is}
 

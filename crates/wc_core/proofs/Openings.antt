@@ -1,7 +1,6 @@
 -- The opening entries, their edits, and the core's invariant after them.
-use Rattle.std.proofs.Common.{◌≡◌, ℕ, zero, suc, ◌+◌, ◌<◌, ◌≤◌, Bool, true, false, ◌||◌, List, [], ◌∷◌, ◌++◌, length, take, drop, map, Option, None, Some, refl, sym, ap, subst, ◌∙◌, append_assoc, arith, if◌then◌else◌}
+use Rattle.std.proofs.Common.{◌≡◌, ℕ, suc, ◌+◌, ◌≤◌, List, [], ◌∷◌, ◌++◌, length, take, drop, map, Option, None, Some, refl, sym, ap, subst, ◌∙◌, append_assoc, arith, if◌then◌else◌}
 use Rattle.std.proofs.lemmas.List.{append-nil}
-use Rattle.std.proofs.Math.ListN.{drop_of_length-le}
 use Rattle.std.proofs.Math.Seq.{take-length, drop-length}
 use Rattle.wc_model.specs.declared.elf_image.Image.{Image}
 use Rattle.wc_model.specs.declared.entries.Entry.{Entry}
@@ -12,8 +11,8 @@ use Rattle.wc_model.specs.declared.inputs.Edit.{Edit}
 use Rattle.wc_model.specs.declared.inputs.Edit.TheVariants.{Add, Hardware as Timing}
 use Rattle.wc_model.specs.declared.machine.Hardware.{Hardware}
 use Rattle.wc_model.specs.Closures.{touches_any, last_touch}
-use Rattle.wc_model.specs.Edits.{Setting, bare, edited, all_edited, edits_of, edit_of}
-use Rattle.wc_model.specs.History.{Opening, State, Run, Ask, Chain, EachRight, IsLegal, opening_edits, opening_entries, fact_entries, state_after, opened, replay, start}
+use Rattle.wc_model.specs.Edits.{Setting, bare, edited, all_edited, edits_of}
+use Rattle.wc_model.specs.History.{Opening, State, Run, Ask, Chain, EachRight, IsLegal, opening_entries, fact_entries, state_after, opened, replay, start}
 use Rattle.wc_model.proofs.Replays.{length-opening_entries}
 use Rattle.wc_core.specs.declared.store.Slot.{Slot}
 use Rattle.wc_core.specs.Answers.{LeavesFree, RunsNothing}

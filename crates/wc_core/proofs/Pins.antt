@@ -1,18 +1,18 @@
 -- What a pin owes.
-use Rattle.std.proofs.Common.{◌≡◌, ℕ, ◌+◌, ◌≤◌, Bool, true, false, List, [], ◌∷◌, ◌++◌, length, map, Some, refl, sym, ap, subst, ◌∙◌}
+use Rattle.std.proofs.Common.{◌≡◌, ℕ, ◌+◌, ◌≤◌, false, List, [], ◌∷◌, ◌++◌, length, refl, sym, subst}
 use Rattle.wc_model.specs.declared.elf_image.Image.{Image}
 use Rattle.wc_model.specs.declared.entries.Entry.{Entry}
 use Rattle.wc_model.specs.declared.entries.Entry.TheVariants.{Pin}
 use Rattle.wc_model.specs.declared.flow_facts.Fact.{Fact}
 use Rattle.wc_model.specs.declared.machine.Hardware.{Hardware}
-use Rattle.wc_model.specs.Edits.{Setting, edits_of, after_edits}
-use Rattle.wc_model.specs.History.{Opening, Chain, IsLegal, state_after}
+use Rattle.wc_model.specs.Edits.{Setting}
+use Rattle.wc_model.specs.History.{Opening, Chain, IsLegal}
 use Rattle.wc_core.specs.declared.store.Slot.{Slot}
 use Rattle.wc_core.specs.Answers.{LeavesFree}
 use Rattle.wc_core.specs.Fits.{FitsTicket}
-use Rattle.wc_core.specs.Holds.{plain_opening, plain_state, row_of, IsCore}
+use Rattle.wc_core.specs.Holds.{plain_opening, IsCore}
 use Rattle.wc_core.specs.Views.{Known, KnownTicket}
-use Rattle.wc_core.proofs.Cores.{core_free, core_pin, core_legal, core_inputs_at, fresh_ask}
+use Rattle.wc_core.proofs.Cores.{core_free, core_pin, core_legal, core_inputs_at}
 
 abbrev pub fresh_ticket : {V : Type 0} → ℕ → List ℕ → ℕ → Setting → ℕ → KnownTicket V
 fresh_ticket session name at inputs spare = record { session = session; name = name; at = at; inputs = inputs; had = []; memory = false; spare = spare }

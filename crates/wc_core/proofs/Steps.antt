@@ -1,5 +1,5 @@
 -- What each entry does to the replay while there is one kind, one work and one session.
-use Rattle.std.proofs.Common.{◌≡◌, ℕ, zero, suc, ◌+◌, ◌≤◌, Bool, true, false, not, ◌&&◌, ◌||◌, ◌==◌, List, [], ◌∷◌, ◌++◌, length, take, drop, map, filter, Option, None, Some, refl, sym, ap, ◌∙◌, arith, eq-eqb, is_some, if◌then◌else◌, nat_le}
+use Rattle.std.proofs.Common.{◌≡◌, ℕ, suc, ◌+◌, Bool, true, false, not, ◌&&◌, ◌||◌, ◌==◌, List, [], ◌∷◌, ◌++◌, length, take, drop, map, filter, Option, None, Some, refl, sym, ap, ◌∙◌, eq-eqb, is_some, if◌then◌else◌, nat_le}
 use Rattle.std.proofs.lemmas.List.{append-nil}
 use Rattle.std.specs.Global.{Global}
 use Rattle.std.specs.declared.sync.Arc.{Arc}
@@ -13,8 +13,8 @@ use Rattle.wc_model.specs.declared.machine.Hardware.{Hardware}
 use Rattle.wc_model.specs.declared.values.Outcome.{Outcome}
 use Rattle.wc_model.specs.declared.values.Outcome.TheVariants.{Memory as NoMemory}
 use Rattle.wc_model.specs.Closures.{touches_any, last_touch, has_kind}
-use Rattle.wc_model.specs.Edits.{Setting, bare, all_edited, edited}
-use Rattle.wc_model.specs.History.{Opening, State, Row, Run, Ask, step, allow, same_name, in_store, has_key, has_row, with_key, stored, with_room, is_touched, untouched_keys, can_edit, is_live, after_edit, is_memory, bound_kind}
+use Rattle.wc_model.specs.Edits.{bare, all_edited}
+use Rattle.wc_model.specs.History.{Opening, State, Row, Run, Ask, step, allow, same_name, in_store, has_key, has_row, with_key, stored, with_room, is_touched, untouched_keys, can_edit, is_live, is_memory, bound_kind}
 use Rattle.wc_core.specs.declared.store.Slot.{Slot}
 use Rattle.wc_core.specs.Holds.{all_parts, plain_opening, plain_state, keys_of, row_of, emptied, slots_after, stamp_after, has_value, has_slot, filled, with_value}
 use Rattle.wc_core.specs.Views.{value_of}

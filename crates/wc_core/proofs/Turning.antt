@@ -1,5 +1,5 @@
 -- What an open ask does: it answers or starts.
-use Rattle.std.proofs.Common.{◌≡◌, ℕ, zero, suc, ◌+◌, ◌≤◌, Bool, true, false, not, ◌&&◌, ◌||◌, ◌==◌, List, [], ◌∷◌, ◌++◌, length, take, map, Option, None, Some, nat_le, refl, sym, ap, subst, ◌∙◌, arith, if◌then◌else◌}
+use Rattle.std.proofs.Common.{◌≡◌, ℕ, ◌+◌, ◌≤◌, Bool, true, false, ◌&&◌, ◌||◌, List, [], ◌∷◌, ◌++◌, length, take, map, Option, None, Some, nat_le, refl, sym, ap, subst, ◌∙◌, arith, if◌then◌else◌}
 use Rattle.std.proofs.lemmas.List.{append-nil}
 use Rattle.std.proofs.lemmas.Bool.{leb-true}
 use Rattle.wc_model.specs.declared.elf_image.Image.{Image}
@@ -16,9 +16,9 @@ use Rattle.wc_model.proofs.Replays.{Kept}
 use Rattle.wc_core.specs.declared.store.Slot.{Slot}
 use Rattle.wc_core.specs.Answers.{LeavesFree}
 use Rattle.wc_core.specs.Features.{Each}
-use Rattle.wc_core.specs.Fits.{FitsTicket, FitsFlight, run_of, is_settled, names_needed}
+use Rattle.wc_core.specs.Fits.{FitsTicket, FitsFlight, is_settled, names_needed}
 use Rattle.wc_core.specs.Holds.{all_parts, plain_opening, plain_state, row_of, has_value, is_reached, IsTurnOf, IsCore, entries_needed}
-use Rattle.wc_core.specs.Turns.{Turn, answers, starts, next_turn, turn_for, first_missing, at_home, IsTurn, OutcomeIs}
+use Rattle.wc_core.specs.Turns.{Turn, answers, starts, next_turn, turn_for, at_home, IsTurn, OutcomeIs}
 use Rattle.wc_core.specs.Views.{KnownTicket, KnownFlight, ask_of}
 use Rattle.wc_core.proofs.Cores.{IsOne, grown, rebuilt, kept_of, core_legal, core_inputs_at, core_stamp_at, ran_more, some_same, turn_free}
 use Rattle.wc_core.proofs.Steps.{step_start, step_no_memory, step_reached, stored_is}

@@ -3,7 +3,7 @@ ghost use Rattle.wc_model.specs.Edits.{after};
 ghost use Rattle.wc_model.specs.History.{IsLegal};
 ghost use Rattle.wc_core.specs.Answers.{LeavesFree, IsPinned, IsDone, IsStarted, IsBusy, IsGiven};
 ghost use Rattle.wc_core.specs.Features.{Each};
-ghost use Rattle.wc_core.specs.Fits.{EachFeature, FitsTicket, FitsFlight, FitsLanded};
+ghost use Rattle.wc_core.specs.Fits.{EachFeature, FitsTicket, FitsFlight, FitsLanded, is_settled};
 ghost use Rattle.wc_core.specs.Holds.{AreFeatures, has_value, is_reached};
 ghost use Rattle.wc_core.specs.Turns.{IsTurn, OutcomeIs, answers, starts};
 ghost use Rattle.wc_core.specs.Views.{SameAsk, ask_of, landed_of};
@@ -126,6 +126,9 @@ impl<W: Work> Core<W> {
         ensures opening { self.new.opening ≡ self.old.opening }
         ensures legal { IsLegal W.chain self.new.opening self.new.history }
         ensures answer { elim result [ Next.Done asked ↦ IsDone W.chain self.old self.new ticket asked | Next.Run flight ↦ IsStarted W.is_feature self.old self.new ticket flight | Next.Busy back session ↦ IsBusy self.old self.new ticket back session ] }
+
+        // While there is one session, an ask waits for nobody.
+        ensures alone { elim result [ Next.Done asked ↦ Unit {0} | Next.Run flight ↦ Unit {0} | Next.Busy back session ↦ ⊥ ] }
     {
         match self.outcome_for(&ticket) {
             Some(outcome) => Next::Done(self.answer(ticket, outcome)),
@@ -174,6 +177,7 @@ impl<W: Work> Core<W> {
         ensures legal { IsLegal W.chain self.new.opening self.new.history }
         ensures same { SameAsk ticket result }
         ensures memory { result.memory ≡ false }
+        ensures settled { is_settled result ≡ true }
         ensures entry { self.new.history ≡ self.old.history ++ Entry.Finish ticket.session (W.kind_of work) ticket.name stamp End.Kept ∷ [] }
         ensures fits { FitsTicket W.is_feature self.new.opening self.new.history result }
     {
@@ -199,6 +203,9 @@ impl<W: Work> Core<W> {
         ensures opening { self.new.opening ≡ self.old.opening }
         ensures legal { IsLegal W.chain self.new.opening self.new.history }
         ensures answer { IsGiven W.is_feature self.old self.new landed result }
+
+        // While there is one kind, an ask needs no other run.
+        ensures settled { is_settled result ≡ true }
     {
         let Landed {
             work,

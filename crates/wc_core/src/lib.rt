@@ -3,6 +3,7 @@
 
 mod answers;
 mod asks;
+mod boxed;
 mod calls;
 mod changes;
 mod opening;
@@ -12,6 +13,7 @@ mod tickets;
 mod work;
 
 pub use answers::Edited;
+pub use boxed::Processor;
 pub use shared::Core;
 pub use tickets::{Flight, Landed, Next, Ticket};
 pub use work::{Given, Job, Work};

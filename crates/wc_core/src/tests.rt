@@ -8,7 +8,7 @@ use std::alloc::{AllocError, Global};
 use std::sync::Arc;
 use std::test::Fail;
 use wc_model::{
-    Asked, Cycles, Describe, Edit, Fact, Hardware, Image, Kind, Outcome, Part, Table, Text,
+    Asked, Cycles, Describe, Edit, Fact, Hardware, Image, Kind, Outcome, Part, Table, Text, Value,
 };
 
 // A work whose value is the number of its runs. The run numbered `failing` finds no memory.
@@ -133,7 +133,12 @@ fn works_of(alloc: Global, failing: u64) -> Result<Vec<Counter>, AllocError>
     Ok(works)
 }
 
-fn core_of(alloc: Global, failing: u64) -> Result<Core<Counter>, AllocError>
+// A core over a program without bytes.
+fn core_over<W: Work>(alloc: Global, works: Vec<W>) -> Result<Core<W>, AllocError>
+    requires described { W.described ≡ bound_alone ∷ [] }
+    requires kinds { map W.kind_of works.items ≡ 11 ∷ [] }
+    requires runs { map W.runs_of works.items ≡ 0 ∷ [] }
+    requires ready { Each W.may_run works.items }
     ensures { IfOk result (λ c. LeavesFree c.opening c.history 1) }
 {
     let image = Image {
@@ -142,7 +147,6 @@ fn core_of(alloc: Global, failing: u64) -> Result<Core<Counter>, AllocError>
         names: Table::new(Vec::new(alloc)),
     };
     let image = Arc::new(alloc, image)?;
-    let works = works_of(alloc, failing)?;
     Core::new(
         alloc,
         image,
@@ -154,8 +158,14 @@ fn core_of(alloc: Global, failing: u64) -> Result<Core<Counter>, AllocError>
     )
 }
 
+fn core_of(alloc: Global, failing: u64) -> Result<Core<Counter>, AllocError>
+    ensures { IfOk result (λ c. LeavesFree c.opening c.history 1) }
+{
+    core_over(alloc, works_of(alloc, failing)?)
+}
+
 // One ask from its pin to its answer.
-fn ask(core: &mut Core<Counter>, alloc: Global, name: &[u8]) -> Result<Asked, AllocError>
+fn ask<W: Work>(core: &mut Core<W>, alloc: Global, name: &[u8]) -> Result<Asked, AllocError>
     requires { LeavesFree core.old.opening core.old.history 1 }
     ensures { IfOk result (λ _. LeavesFree core.new.opening core.new.history 1) }
 {
@@ -230,5 +240,77 @@ fn the_earliest_of_33_names_is_computed_again(rt: HostRuntime) -> Result<(), Fai
     core.history();
     let (_history, works) = core.close();
     assert_eq!(rt; works[0].runs(), 34);
+    Ok(())
+}
+
+// A processor that never finds memory.
+#[derive(Drop)]
+struct Exhausted {
+    kind: Kind,
+    runs: u64,
+}
+
+impl Processor for Exhausted {
+    ghost can_run = { λ _. Unit {0} };
+
+    ghost kind_is = { λ w. w.kind };
+
+    ghost runs_is = { λ w. w.runs };
+
+    fn kind(&self) -> Kind {
+        self.kind
+    }
+
+    fn runs(&self) -> u64 {
+        self.runs
+    }
+
+    fn run(
+        &mut self,
+        _alloc: Global,
+        _job: &Job,
+        _given: &Given<Value>,
+    ) -> Result<Arc<Value>, AllocError> {
+        self.runs += 1;
+        Err(AllocError)
+    }
+}
+
+fn boxed_works(alloc: Global) -> Result<Vec<Box<dyn Processor + Send>>, AllocError>
+    ensures kinds { IfOk result (λ ws. map (λ w. (Processor-box w).kind_is w.value) ws.items ≡ 11 ∷ []) }
+    ensures runs { IfOk result (λ ws. map (λ w. (Processor-box w).runs_is w.value) ws.items ≡ 0 ∷ []) }
+    ensures ready { IfOk result (λ ws. Each (λ w. (Processor-box w).can_run w.value) ws.items) }
+{
+    let work = Exhausted {
+        kind: bound_kind()?,
+        runs: 0,
+    };
+    let mut works: Vec<Box<dyn Processor + Send>> = Vec::new(alloc);
+    works.push(Box::new(alloc, work)?)?;
+    Ok(works)
+}
+
+// The outcome of two asks over these works, and how often the first of them ran.
+fn ask_twice<W: Work>(alloc: Global, works: Vec<W>) -> Result<(Outcome, Outcome, u64), AllocError>
+    requires described { W.described ≡ bound_alone ∷ [] }
+    requires kinds { map W.kind_of works.items ≡ 11 ∷ [] }
+    requires runs { map W.runs_of works.items ≡ 0 ∷ [] }
+    requires ready { Each W.may_run works.items }
+{
+    let mut core = core_over(alloc, works)?;
+    let first = ask(&mut core, alloc, b"f")?;
+    let second = ask(&mut core, alloc, b"f")?;
+    core.history();
+    let (_history, works) = core.close();
+    Ok((first.outcome, second.outcome, works[0].runs()))
+}
+
+#[test]
+fn boxed_works_run_and_come_home(rt: HostRuntime) -> Result<(), Fail> {
+    let alloc = rt.alloc();
+    let (first, second, runs) = ask_twice(alloc, boxed_works(alloc)?)?;
+    assert_eq!(rt; first, Outcome::Memory);
+    assert_eq!(rt; second, Outcome::Memory);
+    assert_eq!(rt; runs, 2);
     Ok(())
 }

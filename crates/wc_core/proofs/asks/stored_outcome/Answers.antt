@@ -1,4 +1,4 @@
-use Rattle.std.proofs.Common.{◌≡◌, Bool, true, false, Option, None, Some, MatchOption, is_some, refl, sym, ap, subst, ◌∙◌}
+use Rattle.std.proofs.Common.{false, Option, is_some, refl, sym, ap, subst, ◌∙◌}
 use Rattle.wc_model.specs.declared.values.Outcome.{Outcome}
 use Rattle.wc_core.specs.Features.{Tells}
 use Rattle.wc_core.specs.Holds.{value_at, has_value}

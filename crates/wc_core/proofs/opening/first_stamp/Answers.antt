@@ -1,4 +1,4 @@
-use Rattle.std.proofs.Common.{◌≡◌, ℕ, Bool, if◌then◌else◌, sym, ap, ◌∙◌}
+use Rattle.std.proofs.Common.{ℕ, Bool, if◌then◌else◌, sym, ap, ◌∙◌}
 use Rattle.wc_core.proofs.opening.first_stamp.Goals as goal
 
 pub returns-then-is_changed : goal.returns-then-is_changed

@@ -1,9 +1,9 @@
-use Rattle.std.proofs.Common.{◌≡◌, ◌≤◌, ◌+◌, List, [], ◌∷◌, ◌++◌, length, vec_capacity, arith, refl, ap, ◌∙◌}
+use Rattle.std.proofs.Common.{◌≡◌, ◌≤◌, ◌+◌, [], ◌∷◌, ◌++◌, length, vec_capacity, arith, refl, ap, ◌∙◌}
 use Rattle.wc_model.specs.declared.entries.Entry.TheVariants.{Edit as EditEntry}
 use Rattle.wc_model.specs.Closures.{touches_any}
 use Rattle.wc_model.specs.Edits.{setting_of, edited}
 use Rattle.wc_core.specs.Holds.{all_parts}
-use Rattle.wc_core.proofs.Goings.{Goes, goes_accept, stable_alone}
+use Rattle.wc_core.proofs.Goings.{goes_accept, stable_alone}
 use Rattle.wc_core.proofs.shared.Core.accept.Goals as goal
 
 pub invariant_of-self-2 : goal.invariant_of-self-2

@@ -1,8 +1,7 @@
-use Rattle.std.proofs.Common.{◌≡◌, vec_capacity, ap}
+use Rattle.std.proofs.Common.{vec_capacity, ap}
 use Rattle.wc_model.specs.Edits.{setting_of}
 use Rattle.wc_core.specs.Views.{KnownTicket}
 use Rattle.wc_core.proofs.Departures.{answer_entries, done_all}
-use Rattle.wc_core.proofs.Turning.{Answers}
 use Rattle.wc_core.proofs.shared.Core.answer.Goals as goal
 
 pub invariant_of-self : goal.invariant_of-self

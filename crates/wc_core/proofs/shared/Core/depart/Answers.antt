@@ -1,4 +1,4 @@
-use Rattle.std.proofs.Common.{◌≡◌, ◌≤◌, ◌<◌, ◌+◌, ◌-◌, ◌^◌, List, length, vec_capacity, arith, ap, subst}
+use Rattle.std.proofs.Common.{◌≡◌, List, vec_capacity, arith, ap, subst}
 use Rattle.wc_model.specs.Edits.{setting_of}
 use Rattle.wc_core.specs.Features.{Each}
 use Rattle.wc_core.specs.Views.{KnownTicket}

@@ -1,5 +1,5 @@
 use Rattle.std.proofs.Common.{◌≤◌, ◌+◌, length, vec_capacity, arith}
-use Rattle.wc_core.proofs.Goings.{Goes, goes_list}
+use Rattle.wc_core.proofs.Goings.{goes_list}
 use Rattle.wc_core.proofs.shared.Core.list.Goals as goal
 
 pub invariant_of-self-2 : goal.invariant_of-self-2

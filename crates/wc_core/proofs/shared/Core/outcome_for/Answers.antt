@@ -1,4 +1,4 @@
-use Rattle.std.proofs.Common.{◌≡◌, false, true, List, MatchOption, ap, subst, vec_capacity}
+use Rattle.std.proofs.Common.{◌≡◌, false, true, List, MatchOption, subst, vec_capacity}
 use Rattle.wc_model.specs.Edits.{setting_of}
 use Rattle.wc_core.specs.declared.store.Slot.{Slot}
 use Rattle.wc_core.specs.Holds.{is_reached}

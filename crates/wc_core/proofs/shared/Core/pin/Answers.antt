@@ -1,7 +1,7 @@
-use Rattle.std.proofs.Common.{◌≡◌, ◌≤◌, ◌+◌, List, [], ◌∷◌, ◌++◌, length, vec_capacity, arith, refl, sym, ap, ◌∙◌}
+use Rattle.std.proofs.Common.{◌≡◌, ◌≤◌, ◌+◌, [], ◌∷◌, ◌++◌, length, vec_capacity, arith, sym, ap, ◌∙◌}
 use Rattle.wc_model.specs.declared.entries.Entry.TheVariants.{Pin}
 use Rattle.wc_model.specs.Edits.{setting_of}
-use Rattle.wc_core.proofs.Pins.{Pins, goes_pin}
+use Rattle.wc_core.proofs.Pins.{goes_pin}
 use Rattle.wc_core.proofs.shared.Core.pin.Goals as goal
 
 pub invariant_of-self-2 : goal.invariant_of-self-2

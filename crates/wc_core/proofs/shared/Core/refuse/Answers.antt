@@ -1,5 +1,5 @@
 use Rattle.std.proofs.Common.{◌≤◌, ◌+◌, length, vec_capacity, arith}
-use Rattle.wc_core.proofs.Goings.{Goes, goes_nofact}
+use Rattle.wc_core.proofs.Goings.{goes_nofact}
 use Rattle.wc_core.proofs.shared.Core.refuse.Goals as goal
 
 pub invariant_of-self-2 : goal.invariant_of-self-2
