@@ -1,6 +1,7 @@
-ghost use Rattle.std.specs.Prelude.{◌≡◌, IfOk};
+ghost use Rattle.std.specs.Prelude.{◌≡◌, Ok, IfOk};
 ghost use Rattle.wc_io.specs.Causes.{HasCause};
 ghost use Rattle.wc_io.specs.Writing.{Writes};
+ghost use Rattle.wc_hw.specs.Reading.{ReadsAs};
 ghost use Rattle.wc_hw.specs.HardwareText.{cache_text, cycles_text, hardware_text, icache_text, start_text};
 
 use std::alloc::{AllocError, Global};
@@ -72,7 +73,7 @@ fn write_cache<K: Sink>(sink: &mut K, cache: &Cache, cycles: &Cycles) -> Result<
     )
 }
 
-/// Appends the hardware as JSON, with all names and without blanks. After `Failed` a prefix was appended.
+/// Appends the hardware as JSON, with all names and without blanks. After `Failed` a shorter prefix was appended.
 pub fn write_hardware<K: Sink>(sink: &mut K, hardware: &Hardware) -> Result<(), Failed>
     ensures text { Writes (K.held sink.old) (K.held sink.new) result (hardware_text hardware.now) }
     ensures cause { HasCause (K.faults sink.old) (K.faults sink.new) result }
@@ -95,9 +96,15 @@ fn write_rest<K: Sink>(sink: &mut K, hardware: &Hardware) -> Result<(), Failed>
     }
 }
 
-/// The text that `write_hardware` appends.
+// What is printed of a hardware states it.
+fn states(hardware: Hardware)
+    ensures { ReadsAs (hardware_text hardware) (Ok hardware) }
+{}
+
+/// The text that `write_hardware` appends, which `read_hardware` reads as this hardware.
 pub fn print_hardware(alloc: Global, hardware: &Hardware) -> Result<Vec<u8>, AllocError>
-    ensures { IfOk result (λ text. text.items ≡ hardware_text hardware.now) }
+    ensures text { IfOk result (λ text. text.items ≡ hardware_text hardware.now) }
+    ensures read_back { IfOk result (λ text. ReadsAs text.items (Ok hardware.now)) }
 {
     let mut sink = MemorySink {
         place: 0,
@@ -107,6 +114,7 @@ pub fn print_hardware(alloc: Global, hardware: &Hardware) -> Result<Vec<u8>, All
         failing: Vec::new(alloc),
         faults: 0,
     };
+    states(*hardware);
     match write_hardware(&mut sink, hardware) {
         Ok(()) => Ok(sink.held),
         Err(Failed) => Err(AllocError),
