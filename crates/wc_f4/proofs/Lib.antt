@@ -1,0 +1,12 @@
+pub mod Acceptance
+pub mod Completions
+pub mod FirstWrong
+pub mod GivenBack
+pub mod GrammarLemmas
+pub mod ParsingLemmas
+pub mod PrintedFacts
+pub mod PrintedTokens
+pub mod RunLemmas
+pub mod Sayings
+pub mod StatedLemmas
+pub mod TokenLemmas

@@ -1,0 +1,8 @@
+use Rattle.wc_f4.specs.declared.tokens.Token.TheVariants.{Word}
+use Rattle.wc_f4.specs.Views.{left}
+use Rattle.wc_f4.proofs.TokenLemmas.{read_on}
+use Rattle.wc_f4.proofs.readers.Reader.word.Goals as goal
+
+pub returns-in-Word : goal.returns-in-Word
+returns-in-Word c =
+    (c.args.self.now.next.place, read_on c.args.self.now (Word c.in-Word.word) (left c.advance.new.self) c.in-Word.is c.advance.ensures)

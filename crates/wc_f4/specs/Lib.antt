@@ -1,0 +1,9 @@
+pub mod Bytes
+pub mod FactText
+pub mod Grammar
+pub mod Places
+pub mod Reading
+pub mod Stated
+pub mod Taking
+pub mod Tokens
+pub mod Views

@@ -1,0 +1,17 @@
+//! The flow facts of a program, read from a text in the F4 profile and printed again.
+#![tactic(auto)]
+
+mod facts;
+mod pieces;
+mod printing;
+mod readers;
+mod reading;
+mod runs;
+mod stops;
+mod sums;
+#[cfg(test)]
+mod tests;
+mod tokens;
+
+pub use printing::{print_fact, write_fact};
+pub use reading::{read_facts, read_one};

@@ -1,0 +1,123 @@
+ghost use Rattle.std.specs.Prelude.{◌≡◌, [], ◌∷◌, ◌++◌, false, All, IfOk, Ok};
+ghost use Rattle.wc_f4.specs.Taking.{StandsAtEnd};
+ghost use Rattle.wc_f4.specs.Places.{Goes, Shortens, answer, finish, first, start};
+ghost use Rattle.wc_f4.specs.Reading.{GivesBack, ReadsFacts, ReadsOne, map_value, names_of, trouble_of};
+ghost use Rattle.wc_f4.specs.Stated.{IsStated};
+ghost use Rattle.wc_f4.specs.Grammar.{IsWhole, any};
+ghost use Rattle.wc_f4.specs.Tokens.{line_at, placed_tokens, tokens_of};
+ghost use Rattle.wc_f4.specs.Views.{left};
+
+use crate::facts::fact;
+use crate::readers::Reader;
+use crate::stops::Stop;
+use std::alloc::{AllocError, Global};
+use wc_base::{Fault, Trouble};
+use wc_model::{Fact, Image};
+
+/// The line of a place, from 1.
+fn line_at(text: &[u8], place: usize) -> u64
+    ensures { result ≡ line_at text.now place }
+{
+    let mut line = 1;
+    let end = place.min(text.len());
+    for byte in &text[..end] {
+        if *byte == b'\n' {
+            line += 1;
+        }
+    }
+    line
+}
+
+fn trouble_of(text: &[u8], stop: Stop) -> Trouble
+    ensures { result ≡ trouble_of text.now stop }
+{
+    match stop {
+        Stop::Bad(place) => Trouble::Fault(Fault::BadFact(line_at(text, place))),
+        Stop::Unknown(place) => Trouble::Fault(Fault::UnknownLabel(line_at(text, place))),
+        Stop::Memory(error) => Trouble::Memory(error),
+    }
+}
+
+fn add(facts: &mut Vec<Fact>, fact: Fact) -> Result<(), AllocError>
+    ensures { IfOk result (λ _. facts.new.items ≡ facts.old.items ++ fact ∷ []) }
+{
+    facts.push(fact)?;
+    Ok(())
+}
+
+/// Adds the next fact.
+fn next_fact(
+    facts: &mut Vec<Fact>,
+    alloc: Global,
+    reader: &mut Reader,
+    image: &Image,
+) -> Result<(), Stop>
+    requires { StandsAtEnd false (left reader.old) }
+    ensures read { Goes result (answer (names_of image.now) start start facts.old.items (left reader.old)) (λ _. answer (names_of image.now) start start facts.new.items (left reader.new)) }
+    ensures shorter { Shortens result (left reader.old) (left reader.new) }
+{
+    let fact = match fact(alloc, reader, image) {
+        Ok(fact) => fact,
+        Err(stop) => return Err(stop),
+    };
+    match add(facts, fact) {
+        Ok(()) => Ok(()),
+        Err(error) => Err(Stop::Memory(error)),
+    }
+}
+
+fn all_facts(alloc: Global, reader: &mut Reader, image: &Image) -> Result<Vec<Fact>, Stop>
+    ensures { Goes result (answer (names_of image.now) start start [] (left reader.old)) (λ facts. Ok facts.items) }
+{
+    let mut facts = Vec::new(alloc);
+    'facts: loop {
+        if reader.is_at_end() {
+            return Ok(facts);
+        }
+        match next_fact(&mut facts, alloc, reader, image) {
+            Ok(()) => {}
+            Err(stop) => return Err(stop),
+        }
+    }
+}
+
+fn one_fact(alloc: Global, reader: &mut Reader, image: &Image) -> Result<Fact, Stop>
+    ensures { Goes result (answer (names_of image.now) finish first [] (left reader.old)) (λ fact. Ok (fact ∷ [])) }
+{
+    let fact = match fact(alloc, reader, image) {
+        Ok(fact) => fact,
+        Err(stop) => return Err(stop),
+    };
+    if reader.is_at_end() {
+        Ok(fact)
+    } else {
+        Err(Stop::Bad(reader.place()))
+    }
+}
+
+/// The facts that a text states. Names in addresses are those of the image. The fault is that of the first token
+/// that is wrong, with its line from 1: `UnknownLabel` where it is the name of an address that `find` refuses, else
+/// `BadFact`.
+pub fn read_facts(alloc: Global, text: &[u8], image: &Image) -> Result<Vec<Fact>, Trouble>
+    ensures read { ReadsFacts (names_of image.now) text.now (map_value (λ facts. facts.items) result) }
+    ensures only { (facts : _) → IsWhole any (names_of image.now) (tokens_of (placed_tokens text.now)) facts → GivesBack facts (map_value (λ v. v.items) result) }
+    ensures stated { IfOk result (λ facts. All IsStated facts.items) }
+{
+    let mut reader = Reader::new(text);
+    match all_facts(alloc, &mut reader, image) {
+        Ok(facts) => Ok(facts),
+        Err(stop) => Err(trouble_of(text, stop)),
+    }
+}
+
+/// The one fact that a text states, with the faults of `read_facts`.
+pub fn read_one(alloc: Global, text: &[u8], image: &Image) -> Result<Fact, Trouble>
+    ensures read { ReadsOne (names_of image.now) text.now result }
+    ensures stated { IfOk result IsStated }
+{
+    let mut reader = Reader::new(text);
+    match one_fact(alloc, &mut reader, image) {
+        Ok(fact) => Ok(fact),
+        Err(stop) => Err(trouble_of(text, stop)),
+    }
+}
