@@ -1,0 +1,97 @@
+-- What a line of a session's script says, and which command it is.
+use Rattle.std.specs.Prelude.{◌≡◌, ℕ, ◌+◌, ◌-◌, ◌*◌, ◌^◌, ◌<◌, ◌==◌, nat_le, Bool, true, not, ◌&&◌, ◌||◌, ◌⊎◌, List, [], ◌∷◌, ◌++◌, length, codes, None, IsSome, Result, Ok, Err}
+use Rattle.std.specs.List.{list_all}
+use Rattle.wc_base.specs.declared.faults.Fault.{Fault}
+use Rattle.wc_base.specs.declared.faults.Fault.TheVariants.{BadCommand, Unbuilt}
+use Rattle.wc_base.specs.declared.faults.UnbuiltWord.TheVariants.{Facts, Icache}
+use Rattle.wc_base.specs.declared.troubles.Trouble.{Trouble}
+use Rattle.wc_base.specs.declared.troubles.Trouble.TheVariants.{Fault as Refused, Memory}
+use Rattle.wc_model.specs.declared.machine.Hardware.{Hardware}
+use Rattle.wc_hw.specs.Reading.{ReadsAs}
+use Rattle.wc_session.specs.declared.commands.Command.{Command}
+use Rattle.wc_session.specs.declared.commands.Command.TheVariants as command
+
+-- a space or a tab
+abbrev pub is_blank : ℕ → Bool
+is_blank b = b == 32 || b == 9
+
+abbrev pub is_digit : ℕ → Bool
+is_digit b = nat_le 48 b && nat_le b 57
+
+-- decimal digits, at least one, that state a number below 2^64
+abbrev pub decimal_value : ℕ → List ℕ → ℕ
+decimal_value n [] = n
+decimal_value n (b ∷ bs) = decimal_value (n * 10 + (b - 48)) bs
+
+pub record IsNumber (digits : List ℕ) (number : ℕ) : Type 0 where
+  pub some : 0 < length digits
+  pub all : list_all is_digit digits ≡ true
+  pub value : decimal_value 0 digits ≡ number
+  pub small : number < 2 ^ 64
+
+-- a name isn't empty and has no space or tab
+pub record IsName (name : List ℕ) : Type 0 where
+  pub some : 0 < length name
+  pub all : list_all (λ b. not (is_blank b)) name ≡ true
+
+-- the forms of a line
+pub data Form : Type 0 where
+  blank : Form
+  adds : List ℕ → Form
+  drops : ℕ → Form
+  sets : List ℕ → Form
+  asks : List ℕ → Form
+  lists : Form
+  quits : Form
+
+-- exactly one space stands where one is shown, and a fact or a JSON value is all that follows it
+abbrev pub Says : List ℕ → Form → Type 0
+Says line blank = list_all is_blank line ≡ true
+Says line (adds fact) = line ≡ codes "add " ++ fact
+Says line (drops number) = (digits : List ℕ) × (line ≡ codes "drop " ++ digits) × IsNumber digits number
+Says line (sets json) = line ≡ codes "hardware " ++ json
+Says line (asks name) = (line ≡ codes "bound " ++ name) × IsName name
+Says line lists = line ≡ codes "list"
+Says line quits = line ≡ codes "quit"
+
+-- Facts aren't read yet.
+abbrev pub IsOnFacts : List ℕ → Type 0
+IsOnFacts line = ((rest : List ℕ) × (line ≡ codes "add " ++ rest)) ⊎ ((rest : List ℕ) × (line ≡ codes "drop " ++ rest))
+
+-- Nor is a cache analysed yet.
+abbrev pub IsBadHardware : List ℕ → Fault → Type 0
+IsBadHardware json (Unbuilt Icache) = (hardware : Hardware) × ReadsAs json (Ok hardware) × IsSome hardware.cache
+IsBadHardware json fault = ReadsAs json (Err (Refused fault))
+
+-- The command of a line that is accepted.
+abbrev pub IsCommand : List ℕ → Command → Type 0
+IsCommand line command.Blank = Says line blank
+IsCommand line command.Quit = Says line quits
+IsCommand line command.List = Says line lists
+IsCommand line (command.Bound name) = Says line (asks name)
+IsCommand line (command.Hardware hardware) = (json : List ℕ) × Says line (sets json) × ReadsAs json (Ok hardware) × (hardware.cache ≡ None)
+IsCommand line (command.Add fact) = ⊥
+IsCommand line (command.Drop number) = ⊥
+
+-- The fault of a line that is refused: it has none of the forms, is on facts, or its hardware is refused.
+abbrev pub IsFaulty : List ℕ → Fault → Type 0
+IsFaulty line BadCommand = ((form : Form) → Says line form → ⊥) × (IsOnFacts line → ⊥)
+IsFaulty line (Unbuilt Facts) = IsOnFacts line
+IsFaulty line fault = (json : List ℕ) × Says line (sets json) × IsBadHardware json fault
+
+-- What reading the rest of a `bound` or of a `hardware` line answers.
+abbrev pub ReadsName : List ℕ → Result (List ℕ) Trouble → Type 0
+ReadsName bytes (Ok name) = (name ≡ bytes) × IsName bytes
+ReadsName bytes (Err (Refused fault)) = (fault ≡ BadCommand) × (IsName bytes → ⊥)
+ReadsName bytes (Err (Memory _)) = Unit {0}
+
+abbrev pub ReadsTiming : List ℕ → Result Hardware Trouble → Type 0
+ReadsTiming json (Ok hardware) = ReadsAs json (Ok hardware) × (hardware.cache ≡ None)
+ReadsTiming json (Err (Refused fault)) = IsBadHardware json fault
+ReadsTiming json (Err (Memory _)) = Unit {0}
+
+-- What reading a line answers. Neither a blank line nor `quit` takes memory.
+abbrev pub Reads : List ℕ → Result Command Trouble → Type 0
+Reads line (Ok command) = IsCommand line command
+Reads line (Err (Refused fault)) = IsFaulty line fault
+Reads line (Err (Memory _)) = (Says line blank → ⊥) × (Says line quits → ⊥)

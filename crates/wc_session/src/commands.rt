@@ -1,0 +1,112 @@
+ghost use Rattle.std.specs.Prelude.{◌≡◌, ◌≢◌, ℕ, not, IfOk, List, ◌++◌, MatchOption};
+ghost use Rattle.std.specs.List.{list_all};
+ghost use Rattle.wc_session.specs.Commands.{is_blank, Reads, ReadsName, ReadsTiming};
+
+use std::alloc::{AllocError, Global};
+use wc_base::{Fault, Trouble, UnbuiltWord};
+use wc_hw::read_hardware;
+use wc_model::{Fact, Hardware, Image, Text};
+
+/// What a line of a script asks for.
+#[derive(Debug, Drop)]
+pub enum Command {
+    Add(Fact),
+    /// Drops the fact with a number.
+    Drop(u64),
+    Hardware(Hardware),
+    /// Asks for the bound of the function with a name.
+    Bound(Text),
+    List,
+    Quit,
+    /// A line of spaces and tabs alone, or of nothing.
+    Blank,
+}
+
+fn is_blank(byte: u8) -> bool
+    ensures { result ≡ is_blank byte }
+{
+    byte == b' ' || byte == b'\t'
+}
+
+fn is_blank_line(line: &[u8]) -> bool
+    ensures { result ≡ list_all is_blank line.now }
+{
+    line.iter().all(|byte| is_blank(*byte))
+}
+
+fn has_no_blank(name: &[u8]) -> bool
+    ensures { result ≡ list_all (λ b. not (is_blank b)) name.now }
+{
+    name.iter().all(|byte| !is_blank(*byte))
+}
+
+/// The bytes after a word at the front of a line.
+fn after<'a>(word: &[u8], line: &'a [u8]) -> Option<&'a [u8]>
+    ensures { MatchOption result ((rest : List ℕ) → line.now ≢ word.now ++ rest) (λ rest. line.now ≡ word.now ++ rest.now) }
+{
+    line.strip_prefix(word)
+}
+
+fn text_of(alloc: Global, bytes: &[u8]) -> Result<Text, AllocError>
+    ensures { IfOk result (λ t. t ≡ bytes.now) }
+{
+    let mut items = Vec::new(alloc);
+    items.extend_from_slice(bytes)?;
+    Ok(Text::new(items))
+}
+
+fn read_name(alloc: Global, bytes: &[u8]) -> Result<Text, Trouble>
+    ensures { ReadsName bytes.now result }
+{
+    if bytes.is_empty() || !has_no_blank(bytes) {
+        return Err(Trouble::Fault(Fault::BadCommand));
+    }
+    match text_of(alloc, bytes) {
+        Ok(name) => Ok(name),
+        Err(error) => Err(Trouble::Memory(error)),
+    }
+}
+
+fn read_timing(alloc: Global, json: &[u8]) -> Result<Hardware, Trouble>
+    ensures { ReadsTiming json.now result }
+{
+    match read_hardware(alloc, json) {
+        Ok(hardware) => match hardware.cache {
+            Some(_) => Err(Trouble::Fault(Fault::Unbuilt(UnbuiltWord::Icache))),
+            None => Ok(hardware),
+        },
+        Err(trouble) => Err(trouble),
+    }
+}
+
+/// The command that a line states. A line of no known form is refused with `BadCommand`, and one that states a
+/// hardware with the fault of its reader. Facts and caches are refused, since they aren't analysed yet.
+pub fn read_command(alloc: Global, line: &[u8], _image: &Image) -> Result<Command, Trouble>
+    ensures { Reads line.now result }
+{
+    if is_blank_line(line) {
+        return Ok(Command::Blank);
+    }
+    if line == b"quit".as_slice() {
+        return Ok(Command::Quit);
+    }
+    if line == b"list".as_slice() {
+        return Ok(Command::List);
+    }
+    if let Some(name) = after(b"bound ", line) {
+        return match read_name(alloc, name) {
+            Ok(name) => Ok(Command::Bound(name)),
+            Err(trouble) => Err(trouble),
+        };
+    }
+    if let Some(json) = after(b"hardware ", line) {
+        return match read_timing(alloc, json) {
+            Ok(hardware) => Ok(Command::Hardware(hardware)),
+            Err(trouble) => Err(trouble),
+        };
+    }
+    if after(b"add ", line).is_some() || after(b"drop ", line).is_some() {
+        return Err(Trouble::Fault(Fault::Unbuilt(UnbuiltWord::Facts)));
+    }
+    Err(Trouble::Fault(Fault::BadCommand))
+}

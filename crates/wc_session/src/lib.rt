@@ -1,0 +1,14 @@
+//! One session of a workspace: the lines of its script in, the replies out.
+#![tactic(auto)]
+
+mod asks;
+mod commands;
+mod following;
+mod replies;
+mod serving;
+mod sessions;
+#[cfg(test)]
+mod tests;
+
+pub use commands::{Command, read_command};
+pub use sessions::{SessionEnd, session};

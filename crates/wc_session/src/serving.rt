@@ -1,0 +1,100 @@
+ghost use Rattle.std.specs.Prelude.{◌≡◌, ◌≤◌, ◌+◌, false, None, Some, IsFalse};
+ghost use Rattle.wc_core.specs.Answers.{LeavesFree};
+ghost use Rattle.wc_io.specs.Causes.{Rose};
+ghost use Rattle.wc_io.specs.Lines.{given};
+ghost use Rattle.wc_session.specs.Parts.{AnswersLine, IsPart, KeepsCore, Sends};
+
+use crate::commands::read_command;
+use crate::following::{Answer, follow};
+use crate::replies::{Reply, write_any};
+use std::alloc::Global;
+use wc_base::Fault;
+use wc_core::{Core, Work};
+use wc_io::{Failed, LineRead, Lines, Sink, Source};
+use wc_model::{Ended, Image};
+
+fn answer_line<W: Work>(alloc: Global, core: &mut Core<W>, image: &Image, line: &[u8]) -> Answer
+    requires { LeavesFree core.old.opening core.old.history 1 }
+    ensures kept { KeepsCore W.chain 1 core.old core.new }
+    ensures answer { AnswersLine 1 image.now core.old.history core.new.history (given line.now) result.reply result.ended }
+{
+    match read_command(alloc, line, image) {
+        Ok(command) => follow(alloc, core, command),
+        Err(trouble) => Answer::of(Reply::from(trouble)),
+    }
+}
+
+/// Writes the reply, and tells how the session ends where it does.
+fn send<K: Sink>(sink: &mut K, answer: &Answer) -> Option<Ended>
+    ensures sent { Sends answer.now.reply answer.now.ended (K.held sink.old) (K.held sink.new) (K.faults sink.old) (K.faults sink.new) result }
+    ensures later { K.faults sink.old ≤ K.faults sink.new }
+    ensures place { K.place sink.new ≡ K.place sink.old }
+{
+    match write_any(sink, &answer.reply) {
+        Ok(()) => answer.ended,
+        Err(Failed) => Some(Ended::WriteFault),
+    }
+}
+
+/// Reads one line more and answers it.
+fn serve_next<W: Work, S: Source, K: Sink>(
+    alloc: Global,
+    core: &mut Core<W>,
+    image: &Image,
+    lines: &mut Lines<S>,
+    sink: &mut K,
+) -> Option<Ended>
+    requires free { LeavesFree core.old.opening core.old.history 1 }
+    requires unread { IsFalse lines.old.ended }
+    ensures kept { KeepsCore W.chain 1 core.old core.new }
+    ensures part { IsPart 1 image.now core.old.history core.new.history lines.old.rest lines.new.rest (K.held sink.old) (K.held sink.new) result }
+    ensures read_fault { result ≡ Some Ended.ReadFault → Rose lines.old.faults lines.new.faults }
+    ensures write_fault { result ≡ Some Ended.WriteFault → Rose (K.faults sink.old) (K.faults sink.new) }
+    ensures reads_later { lines.old.faults ≤ lines.new.faults }
+    ensures writes_later { K.faults sink.old ≤ K.faults sink.new }
+    ensures source_place { lines.new.place ≡ lines.old.place }
+    ensures sink_place { K.place sink.new ≡ K.place sink.old }
+    ensures unread { result ≡ None → lines.new.ended ≡ false }
+    ensures count { result ≡ None → lines.new.count ≡ lines.old.count + 1 }
+    ensures few { lines.new.count ≤ 10000 }
+{
+    match lines.next_line() {
+        LineRead::Line => send(sink, &answer_line(alloc, core, image, lines.line())),
+        LineRead::TooLong => send(sink, &Answer::of(Reply::Refused(Fault::LongLine))),
+        LineRead::TooMuch => send(
+            sink,
+            &Answer {
+                reply: Some(Reply::Refused(Fault::TooMuch)),
+                ended: Some(Ended::TooMuch),
+            },
+        ),
+        LineRead::End => Some(Ended::End),
+        LineRead::ReadFault => Some(Ended::ReadFault),
+    }
+}
+
+/// Answers the lines to come until the session ends.
+pub fn serve_all<W: Work, S: Source, K: Sink>(
+    alloc: Global,
+    core: &mut Core<W>,
+    image: &Image,
+    lines: &mut Lines<S>,
+    sink: &mut K,
+) -> Ended
+    requires free { LeavesFree core.old.opening core.old.history 1 }
+    requires unread { IsFalse lines.old.ended }
+    ensures kept { KeepsCore W.chain 1 core.old core.new }
+    ensures part { IsPart 1 image.now core.old.history core.new.history lines.old.rest lines.new.rest (K.held sink.old) (K.held sink.new) (Some result) }
+    ensures read_fault { result ≡ Ended.ReadFault → Rose lines.old.faults lines.new.faults }
+    ensures write_fault { result ≡ Ended.WriteFault → Rose (K.faults sink.old) (K.faults sink.new) }
+    ensures reads_later { lines.old.faults ≤ lines.new.faults }
+    ensures writes_later { K.faults sink.old ≤ K.faults sink.new }
+    ensures source_place { lines.new.place ≡ lines.old.place }
+    ensures sink_place { K.place sink.new ≡ K.place sink.old }
+{
+    loop {
+        if let Some(ended) = serve_next(alloc, core, image, lines, sink) {
+            return ended;
+        }
+    }
+}

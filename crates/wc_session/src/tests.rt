@@ -1,0 +1,416 @@
+ghost use Rattle.std.specs.Prelude.{◌≡◌, ◌∷◌, [], Some, IfOk, map};
+ghost use Rattle.wc_core.specs.Answers.{LeavesFree};
+ghost use Rattle.wc_core.specs.Features.{Each};
+ghost use Rattle.wc_core.specs.Holds.{bound_alone};
+
+use super::*;
+use std::alloc::{AllocError, Global};
+use std::sync::{Arc, Wait};
+use std::test::Fail;
+use wc_core::{Core, Given, Job, Work};
+use wc_io::{Lines, MemorySink, MemorySource};
+use wc_model::{Cycles, Describe, Ended, Fact, Hardware, Image, Kind, Outcome, Part, Table};
+
+// A work whose bound is the cycles of the class `alu` and one more. The run numbered `failing` finds no memory.
+#[derive(Drop)]
+struct Adder {
+    kind: Kind,
+    runs: u64,
+    failing: u64,
+}
+
+impl Work for Adder {
+    type Value = u64;
+
+    ghost use Rattle.std.specs.Prelude.{◌≡◌, ◌∷◌, [], Option, Some};
+    ghost use Rattle.wc_core.specs.Holds.{bound_alone};
+    ghost use Rattle.wc_model.specs.declared.values.Outcome.TheVariants.{Bound};
+
+    ghost may_run = { λ _. Unit {0} };
+
+    ghost kind_of = { λ w. w.kind };
+
+    ghost runs_of = { λ w. w.runs };
+
+    ghost described = { bound_alone ∷ [] };
+
+    ghost is_feature = { λ _ _ _ _. Unit {0} };
+
+    ghost outcome_of = { λ v. Some (Bound v) };
+
+    ghost chain = { λ _ _ _. Unit {0} };
+
+    fn kind(&self) -> Kind {
+        self.kind
+    }
+
+    fn runs(&self) -> u64 {
+        self.runs
+    }
+
+    fn run(
+        &mut self,
+        alloc: Global,
+        job: &Job,
+        _given: &Given<u64>,
+    ) -> Result<Arc<u64>, AllocError> {
+        self.runs += 1;
+        if self.runs == self.failing {
+            return Err(AllocError);
+        }
+        let cycles = job.inputs.hardware.cycles.alu as u64;
+        Ok(Arc::new(alloc, cycles + 1)?)
+    }
+
+    fn outcome(value: &u64) -> Option<Outcome>
+        ensures { result ≡ Some (Outcome.Bound value.now) }
+    {
+        Some(Outcome::Bound(*value as u128))
+    }
+
+    ghost stable = { λ _ _ _ _ _ _ f. f };
+
+    ghost tells = { λ _ _ _ _. tt };
+}
+
+fn bound_kind() -> Result<Kind, AllocError>
+    ensures { IfOk result (λ k. k ≡ 11) }
+{
+    match Kind::new(11) {
+        Some(kind) => Ok(kind),
+        None => Err(AllocError),
+    }
+}
+
+fn describes(alloc: Global) -> Result<Vec<Describe>, AllocError>
+    ensures { IfOk result (λ ds. ds.items ≡ bound_alone ∷ []) }
+{
+    let mut reads = Vec::new(alloc);
+    reads.push(Part::Steer)?;
+    reads.push(Part::Loops)?;
+    reads.push(Part::Limits)?;
+    reads.push(Part::Cache)?;
+    reads.push(Part::Cycles)?;
+    let mut list = Vec::new(alloc);
+    list.push(Describe {
+        provides: bound_kind()?,
+        requires_: Table::new(Vec::new(alloc)),
+        reads: Table::new(reads),
+    })?;
+    Ok(list)
+}
+
+fn default_hardware() -> Hardware {
+    Hardware {
+        cycles: Cycles {
+            alu: 1,
+            mul: 1,
+            div: 1,
+            load: 1,
+            store: 1,
+            multi: 1,
+            branch: 1,
+            system: 1,
+            taken: 0,
+            per_register: 0,
+            hit: 0,
+            miss: 0,
+        },
+        cache: None,
+    }
+}
+
+fn works_of(alloc: Global, failing: u64) -> Result<Vec<Adder>, AllocError>
+    ensures kinds { IfOk result (λ ws. map (λ w. w.kind) ws.items ≡ 11 ∷ []) }
+    ensures runs { IfOk result (λ ws. map (λ w. w.runs) ws.items ≡ 0 ∷ []) }
+    ensures ready { IfOk result (λ ws. Each (λ _. Unit {0}) ws.items) }
+{
+    let mut works = Vec::new(alloc);
+    works.push(Adder {
+        kind: bound_kind()?,
+        runs: 0,
+        failing,
+    })?;
+    Ok(works)
+}
+
+fn empty_image(alloc: Global) -> Image {
+    Image {
+        bytes: Table::new(Vec::new(alloc)),
+        ranges: Table::new(Vec::new(alloc)),
+        names: Table::new(Vec::new(alloc)),
+    }
+}
+
+fn core_of(alloc: Global, facts: Vec<Fact>, failing: u64) -> Result<Core<Adder>, AllocError>
+    ensures { IfOk result (λ c. LeavesFree c.opening c.history 1) }
+{
+    let image = Arc::new(alloc, empty_image(alloc))?;
+    let works = works_of(alloc, failing)?;
+    Core::new(
+        alloc,
+        image,
+        describes(alloc)?,
+        works,
+        default_hardware(),
+        facts,
+        1,
+    )
+}
+
+// A script whose reads give at most 7 bytes, and of which the reads with these numbers fail.
+fn source_of(alloc: Global, script: &str, failing: &[u64]) -> Result<MemorySource, AllocError> {
+    let mut left = Vec::new(alloc);
+    left.extend_from_slice(script.as_bytes())?;
+    let mut fails = Vec::new(alloc);
+    fails.extend_from_slice(failing)?;
+    Ok(MemorySource {
+        place: 1,
+        left,
+        most: 7,
+        calls: 0,
+        failing: fails,
+        faults: 0,
+    })
+}
+
+fn sink_of(alloc: Global, failing: &[u64]) -> Result<MemorySink, AllocError> {
+    let mut fails = Vec::new(alloc);
+    fails.extend_from_slice(failing)?;
+    Ok(MemorySink {
+        place: 2,
+        path: String::new(alloc),
+        held: Vec::new(alloc),
+        calls: 0,
+        failing: fails,
+        faults: 0,
+    })
+}
+
+fn serve_over<R: Wait>(
+    rt: &R,
+    alloc: Global,
+    core: &mut Core<Adder>,
+    source: MemorySource,
+    sink: MemorySink,
+) -> Result<SessionEnd<MemorySource, MemorySink>, AllocError>
+    requires { LeavesFree core.old.opening core.old.history 1 }
+{
+    let image = empty_image(alloc);
+    match Lines::new(alloc, source) {
+        Ok(lines) => Ok(session(rt, alloc, core, &image, lines, sink)),
+        Err((_source, error)) => Err(error),
+    }
+}
+
+fn serve<R: Wait>(
+    rt: &R,
+    alloc: Global,
+    source: MemorySource,
+    sink: MemorySink,
+) -> Result<SessionEnd<MemorySource, MemorySink>, AllocError> {
+    let mut core = core_of(alloc, Vec::new(alloc), 0)?;
+    serve_over(rt, alloc, &mut core, source, sink)
+}
+
+fn replies<R: Wait>(
+    rt: &R,
+    alloc: Global,
+    script: &str,
+) -> Result<SessionEnd<MemorySource, MemorySink>, AllocError> {
+    let source = source_of(alloc, script, &[])?;
+    let sink = sink_of(alloc, &[])?;
+    serve(rt, alloc, source, sink)
+}
+
+#[test]
+fn an_ask_is_answered_on_the_inputs_of_its_count(rt: HostRuntime) -> Result<(), Fail> {
+    let script =
+        "bound f\nhardware {\"cycles\":{\"alu\":2}}\nbound f\n \t\nbound f\r\nquit\nbound f\n";
+    let end = replies(&rt, rt.alloc(), script)?;
+    let want = "bound f 2 at 1\nedit 2\nbound f 3 at 2\nbound f 3 at 2\n";
+    assert_eq!(rt; end.sink.held.as_slice(), want.as_bytes());
+    assert_eq!(rt; end.ended, Ended::Quit);
+    assert_eq!(rt; end.source.place, 1);
+    assert_eq!(rt; end.sink.place, 2);
+    Ok(())
+}
+
+#[test]
+fn a_session_goes_on_after_want_of_memory(rt: HostRuntime) -> Result<(), Fail> {
+    let alloc = rt.alloc();
+    let mut core = core_of(alloc, Vec::new(alloc), 1)?;
+    let source = source_of(alloc, "bound f\nbound f\n", &[])?;
+    let end = serve_over(&rt, alloc, &mut core, source, sink_of(alloc, &[])?)?;
+    assert_eq!(rt;
+        end.sink.held.as_slice(),
+        b"memory\nbound f 2 at 1\n".as_slice()
+    );
+    // the opening edit, then 4 entries for each ask
+    assert_eq!(rt; core.history().len(), 9);
+    Ok(())
+}
+
+fn two_facts(alloc: Global) -> Result<Vec<Fact>, AllocError> {
+    let mut name = Vec::new(alloc);
+    name.extend_from_slice(b"a.elf")?;
+    let mut facts = Vec::new(alloc);
+    facts.push(Fact::Loop {
+        at: 0x8004,
+        bound: Some(9),
+    })?;
+    facts.push(Fact::Checksum {
+        name: Table::new(name),
+        value: 7,
+    })?;
+    Ok(facts)
+}
+
+#[test]
+fn a_listing_has_the_facts_and_the_hardware(rt: HostRuntime) -> Result<(), Fail> {
+    let alloc = rt.alloc();
+    let source = source_of(alloc, "hardware {\"cycles\":{\"taken\":5}}\nlist\n", &[])?;
+    let mut core = core_of(alloc, two_facts(alloc)?, 0)?;
+    let end = serve_over(&rt, alloc, &mut core, source, sink_of(alloc, &[])?)?;
+    let want =
+        "edit 4\nlist 2 at 4\n2 loop 0x00008004 9;\n3 checksum \"a.elf\" 7;\nhardware {\"cycles\":{\"alu\":1,\"mul\":1,\"div\":1,\"load\":1,\"store\":1,\"multi\":1,\"branch\":1,\"system\":1,\"taken\":5,\"per_register\":0},\"icache\":null}\n";
+    assert_eq!(rt; end.sink.held.as_slice(), want.as_bytes());
+    assert_eq!(rt; end.ended, Ended::End);
+    Ok(())
+}
+
+#[test]
+fn a_line_that_is_refused_says_why(rt: HostRuntime) -> Result<(), Fail> {
+    let table = [
+        ("bound  f", "50 BadCommand"),
+        ("bound\tf", "50 BadCommand"),
+        ("bound f g", "50 BadCommand"),
+        ("bound f\t", "50 BadCommand"),
+        ("bound ", "50 BadCommand"),
+        ("bound", "50 BadCommand"),
+        ("Bound f", "50 BadCommand"),
+        ("list ", "50 BadCommand"),
+        (" list", "50 BadCommand"),
+        ("quit ", "50 BadCommand"),
+        ("QUIT", "50 BadCommand"),
+        ("\0", "50 BadCommand"),
+        ("hardware", "50 BadCommand"),
+        ("hardware ", "10 BadJson"),
+        ("hardware  {", "10 BadJson"),
+        ("hardware []", "11 BadField root"),
+        ("hardware {\"cycles\":{\"alu\":-1}}", "11 BadField alu"),
+        (
+            "hardware {\"icache\":{\"sets\":1,\"ways\":1,\"line\":16,\"hit\":0,\"miss\":9,\"start\":\"any\"}}",
+            "90 Unbuilt icache",
+        ),
+        ("hardware {\"icache\":{\"sets\":3}}", "11 BadField sets"),
+        ("add x", "90 Unbuilt facts"),
+        ("add ", "90 Unbuilt facts"),
+        ("drop 1", "90 Unbuilt facts"),
+        ("drop x", "90 Unbuilt facts"),
+        ("add", "50 BadCommand"),
+        ("drop\t1", "50 BadCommand"),
+    ];
+    for (line, fault) in table {
+        let end = replies(&rt, rt.alloc(), line)?;
+        let mut want = Vec::new(rt.alloc());
+        want.extend_from_slice(b"refused ")?;
+        want.extend_from_slice(fault.as_bytes())?;
+        want.push(b'\n')?;
+        assert_eq!(rt; end.sink.held, want, "{line:?}");
+        assert_eq!(rt; end.ended, Ended::End);
+    }
+    Ok(())
+}
+
+// So many bytes `x`, or so many empty lines.
+fn many(alloc: Global, count: usize, byte: u8) -> Result<MemorySource, AllocError> {
+    let mut source = source_of(alloc, "", &[])?;
+    for _ in 0..count {
+        source.left.push(byte)?;
+    }
+    source.most = 0;
+    Ok(source)
+}
+
+#[test]
+fn too_many_lines_end_a_session(rt: HostRuntime) -> Result<(), Fail> {
+    let alloc = rt.alloc();
+    let most = serve(
+        &rt,
+        alloc,
+        many(alloc, 10_000, b'\n')?,
+        sink_of(alloc, &[])?,
+    )?;
+    assert_eq!(rt; most.sink.held.as_slice(), b"".as_slice());
+    assert_eq!(rt; most.ended, Ended::End);
+    let over = serve(
+        &rt,
+        alloc,
+        many(alloc, 10_001, b'\n')?,
+        sink_of(alloc, &[])?,
+    )?;
+    assert_eq!(rt;
+        over.sink.held.as_slice(),
+        b"refused 53 TooMuch\n".as_slice()
+    );
+    assert_eq!(rt; over.ended, Ended::TooMuch);
+    let long = serve(&rt, alloc, many(alloc, 4_097, b'x')?, sink_of(alloc, &[])?)?;
+    assert_eq!(rt;
+        long.sink.held.as_slice(),
+        b"refused 51 LongLine\n".as_slice()
+    );
+    assert_eq!(rt; long.ended, Ended::End);
+    Ok(())
+}
+
+#[test]
+fn a_failure_of_the_outside_ends_a_session(rt: HostRuntime) -> Result<(), Fail> {
+    let alloc = rt.alloc();
+    // the second write is that of the fault's text
+    let source = source_of(alloc, "x\nx\nquit\n", &[])?;
+    let unwritten = serve(&rt, alloc, source, sink_of(alloc, &[2])?)?;
+    assert_eq!(rt; unwritten.sink.held.as_slice(), b"refused ".as_slice());
+    assert_eq!(rt; unwritten.ended, Ended::WriteFault);
+    assert_eq!(rt; unwritten.sink.faults, 1);
+    // the first read gives the first line
+    let source = source_of(alloc, "list x\nquit\n", &[2])?;
+    let unread = serve(&rt, alloc, source, sink_of(alloc, &[])?)?;
+    assert_eq!(rt;
+        unread.sink.held.as_slice(),
+        b"refused 50 BadCommand\n".as_slice()
+    );
+    assert_eq!(rt; unread.ended, Ended::ReadFault);
+    assert_eq!(rt; unread.source.faults, 1);
+    Ok(())
+}
+
+fn word_of(command: &Command) -> &'static str {
+    match command {
+        Command::Add(_) => "add",
+        Command::Drop(_) => "drop",
+        Command::Hardware(_) => "hardware",
+        Command::Bound(_) => "bound",
+        Command::List => "list",
+        Command::Quit => "quit",
+        Command::Blank => "blank",
+    }
+}
+
+#[test]
+fn a_command_is_read_from_its_line(rt: HostRuntime) -> Result<(), Fail> {
+    let image = empty_image(rt.alloc());
+    let table = [
+        ("", "blank"),
+        (" \t ", "blank"),
+        ("quit", "quit"),
+        ("list", "list"),
+        ("bound f", "bound"),
+        ("hardware {}", "hardware"),
+    ];
+    for (line, word) in table {
+        let command = read_command(rt.alloc(), line.as_bytes(), &image)?;
+        assert_eq!(rt; word_of(&command), word, "{line:?}");
+    }
+    Ok(())
+}
