@@ -1,5 +1,12 @@
 mod BoundAnswers
-mod PossibleFaults
+mod LoadingLemmas
+mod OneAnswer
+mod ReportLemmas
+mod CallLemmas
+mod ServeAnswers
+mod ServingLemmas
+mod TallyLemmas
+mod OpeningLemmas
 pub mod Answer
 pub mod Definitions
 pub mod Distinct

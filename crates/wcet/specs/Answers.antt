@@ -9,6 +9,14 @@ use Rattle.wc_model.specs.declared.values.Outcome.{Outcome}
 use Rattle.wc_model.specs.declared.values.Outcome.TheVariants.{Bound, Fault, Memory}
 use Rattle.wcet.specs.declared.answers.Answer.{Answer}
 use Rattle.wcet.specs.declared.answers.Answer.TheVariants as answer
+use Rattle.wcet.specs.declared.loading.Unloaded.{Unloaded}
+use Rattle.wcet.specs.declared.loading.Unloaded.TheVariants as unloaded
+
+-- the answer of a call whose files weren't loaded
+abbrev pub answer_of : Unloaded → Answer
+answer_of unloaded.ReadFault = answer.ReadFault
+answer_of (unloaded.Refused fault) = answer.Refused fault
+answer_of unloaded.Memory = answer.Memory
 
 abbrev pub refusal : FaultCode → List ℕ
 refusal fault = codes "refused " ++ fault_text fault ++ codes "\n"

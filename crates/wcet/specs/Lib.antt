@@ -1,6 +1,13 @@
 pub mod Answers
 pub mod BoundCall
 pub mod Exploring
+pub mod Files
+pub mod Loading
 pub mod Numbers
+pub mod ReportText
+pub mod ServeCall
+pub mod Session
+pub mod Starts
+pub mod Opening
 pub mod Ways
 pub mod Words

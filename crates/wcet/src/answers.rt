@@ -2,9 +2,10 @@ ghost use Rattle.std.specs.Prelude.{◌≡◌, ◌⊎◌, MatchBool};
 ghost use Rattle.std.specs.Io.KnownBytes.{Appends};
 ghost use Rattle.wc_io.specs.Causes.{Rose, HasCause};
 ghost use Rattle.wc_io.specs.Writing.{AppendsPart, Writes};
-ghost use Rattle.wcet.specs.Answers.{line_of, status_of, unwritten, outcome_status, Finishes};
+ghost use Rattle.wcet.specs.Answers.{answer_of, line_of, status_of, unwritten, outcome_status, Finishes};
 
 use crate::Status;
+use crate::loading::Unloaded;
 use wc_base::Fault;
 use wc_io::{Failed, Piece, Sink, write_pieces};
 use wc_model::Outcome;
@@ -17,6 +18,18 @@ pub enum Answer {
     Memory,
     Refused(Fault),
     Analysed(Outcome),
+}
+
+impl From<Unloaded> for Answer {
+    ghost from_gives = { λ unloaded answer. answer ≡ answer_of unloaded };
+
+    fn from(unloaded: Unloaded) -> Answer {
+        match unloaded {
+            Unloaded::ReadFault => Answer::ReadFault,
+            Unloaded::Refused(fault) => Answer::Refused(fault),
+            Unloaded::Memory => Answer::Memory,
+        }
+    }
 }
 
 fn write_answer<K: Sink>(out: &mut K, name: &str, answer: &Answer) -> Result<(), Failed>

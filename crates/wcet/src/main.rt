@@ -5,14 +5,25 @@ mod answers;
 mod bound;
 mod chain;
 #[cfg(test)]
+mod hardware_tests;
+mod loading;
+mod opening;
+mod report;
+mod running;
+mod serve;
+#[cfg(test)]
+mod serve_tests;
+#[cfg(test)]
 mod tests;
 mod words;
+mod work;
 
 use answers::{Answer, finish};
 use std::alloc::{AllocError, Global};
 use std::env;
 use std::process::ExitCode;
 use wc_io::{FileHouse, FileSink};
+use words::is_word;
 
 /// How a command ended, as the program's exit status.
 pub type Status = u8;
@@ -30,7 +41,12 @@ fn main(rt: HostRuntime) -> ExitCode {
     let mut house = FileHouse::new(alloc, rt);
     let mut out = FileSink::new(rt.stdout());
     let status = match command_words(&rt, alloc) {
-        Ok(words) => bound::bound_once(&rt, alloc, &words, &mut house, &mut out),
+        Ok(words) => match words.as_slice() {
+            [command, ..] if is_word(command, "serve") => {
+                serve::serve(&rt, alloc, &words, &mut house, &mut out)
+            }
+            _ => bound::bound_once(&rt, alloc, &words, &mut house, &mut out),
+        },
         Err(AllocError) => finish(&mut out, "", &Answer::Memory),
     };
     ExitCode::from(status)

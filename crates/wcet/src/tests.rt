@@ -9,7 +9,7 @@ use wc_model::Table;
 
 // An executable with the code at 0x8000, the function `f` there and `t` one byte later; nothing where it is too
 // long.
-fn program(alloc: Global, words: &[u32]) -> Result<Vec<u8>, AllocError> {
+pub fn program(alloc: Global, words: &[u32]) -> Result<Vec<u8>, AllocError> {
     let mut names = Vec::new(alloc);
     names.push((Table::new(Vec::from_slice(alloc, b"f")?), 0x8000))?;
     names.push((Table::new(Vec::from_slice(alloc, b"t")?), 0x8001))?;
@@ -25,7 +25,7 @@ fn program(alloc: Global, words: &[u32]) -> Result<Vec<u8>, AllocError> {
     }
 }
 
-fn house_of(
+pub fn house_of(
     alloc: Global,
     bytes: Vec<u8>,
     most: usize,
@@ -46,7 +46,7 @@ fn house_of(
     })
 }
 
-fn words_of(alloc: Global, line: &str) -> Result<Vec<String>, AllocError> {
+pub fn words_of(alloc: Global, line: &str) -> Result<Vec<String>, AllocError> {
     let mut words = Vec::new(alloc);
     for word in line.split(' ') {
         words.push(String::from_str(alloc, word)?)?;
@@ -55,7 +55,7 @@ fn words_of(alloc: Global, line: &str) -> Result<Vec<String>, AllocError> {
 }
 
 // The status of a call, and what it wrote; some writes of the output fail, by their numbers.
-fn call<R: Threads + Sync>(
+pub fn call<R: Threads + Sync>(
     rt: &R,
     alloc: Global,
     line: &str,
@@ -75,7 +75,7 @@ fn call<R: Threads + Sync>(
     Ok((status, out.held))
 }
 
-const STRAIGHT: [u32; 2] = [0xE3A0_0001, 0xE12F_FF1E];
+pub const STRAIGHT: [u32; 2] = [0xE3A0_0001, 0xE12F_FF1E];
 
 #[test]
 fn each_way_to_end_has_its_line_and_status(rt: HostRuntime) -> Result<(), Fail> {

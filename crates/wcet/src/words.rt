@@ -1,14 +1,16 @@
-ghost use Rattle.std.specs.Prelude.{◌≡◌, ◌≢◌, ◌↔◌, [], map, string_bytes, IsTrue, MatchOption};
-ghost use Rattle.wcet.specs.Words.{IsBoundCall, IsFaultyCall};
+ghost use Rattle.std.specs.Prelude.{◌≡◌, ◌≢◌, ◌↔◌, [], map, codes, string_bytes, IsTrue, MatchOption, option_map};
+ghost use Rattle.wcet.specs.Words.{IsBoundCall, IsFaultyCall, IsFaultyServe, IsServeCall, optional_word};
 
-/// The words of `bound BINARY - - FUNCTION`.
+/// The words of `bound BINARY - HARDWARE FUNCTION`. No path for the hardware means the default one.
 #[derive(Clone, Copy)]
 pub struct BoundCall<'a> {
     pub binary: &'a str,
+    pub hardware: Option<&'a str>,
     pub name: &'a str,
 }
 
-fn is_word(word: &String, text: &str) -> bool
+/// Whether a word is this text.
+pub fn is_word(word: &String, text: &str) -> bool
     ensures { IsTrue result ↔ (string_bytes word.now ≡ text.now) }
 {
     word.as_str() == text
@@ -20,19 +22,73 @@ fn is_named(name: &String) -> bool
     !name.is_empty()
 }
 
+/// The path that a word stands for; nothing for `-`.
+fn optional_path(word: &String) -> Option<&str>
+    ensures word { optional_word (option_map (λ p. p.now) result) ≡ string_bytes word.now }
+    ensures path { MatchOption result (string_bytes word.now ≡ codes "-") (λ p. p.now ≢ codes "-") }
+{
+    if is_word(word, "-") {
+        None
+    } else {
+        Some(word.as_str())
+    }
+}
+
 /// Nothing where the words have another form, or the function no name.
 pub fn bound_call(words: &[String]) -> Option<BoundCall<'_>>
-    ensures { MatchOption result (IsFaultyCall (map string_bytes words.now)) (λ c. IsBoundCall (map string_bytes words.now) c.binary.now c.name.now) }
+    ensures { MatchOption result (IsFaultyCall (map string_bytes words.now)) (λ c. IsBoundCall (map string_bytes words.now) c.binary.now (option_map (λ p. p.now) c.hardware) c.name.now) }
 {
     match words {
         [command, binary, facts, hardware, name]
-            if is_word(command, "bound")
-                && is_word(facts, "-")
-                && is_word(hardware, "-")
-                && is_named(name) => {
+            if is_word(command, "bound") && is_word(facts, "-") && is_named(name) => {
             Some(BoundCall {
                 binary: binary.as_str(),
+                hardware: optional_path(hardware),
                 name: name.as_str(),
+            })
+        }
+        _ => None,
+    }
+}
+
+/// The words of `serve BINARY - HARDWARE IN OUT`. No path for the hardware means the default one.
+#[derive(Clone, Copy)]
+pub struct ServeCall<'a> {
+    pub binary: &'a str,
+    pub hardware: Option<&'a str>,
+    pub input: &'a str,
+    pub output: &'a str,
+}
+
+fn is_same(a: &String, b: &String) -> bool
+    ensures { IsTrue result ↔ (string_bytes a.now ≡ string_bytes b.now) }
+{
+    a.as_str() == b.as_str()
+}
+
+/// Whether the output is no other path of the line.
+fn is_apart(binary: &String, hardware: &String, input: &String, output: &String) -> bool
+    ensures { IsTrue result ↔ (((string_bytes output.now ≢ string_bytes binary.now) × (string_bytes output.now ≢ string_bytes input.now)) × (string_bytes hardware.now ≢ codes "-" → string_bytes output.now ≢ string_bytes hardware.now)) }
+{
+    !is_same(output, binary)
+        && !is_same(output, input)
+        && (is_word(hardware, "-") || !is_same(output, hardware))
+}
+
+/// Nothing where the words have another form, or OUT is another path of the line.
+pub fn serve_call(words: &[String]) -> Option<ServeCall<'_>>
+    ensures { MatchOption result (IsFaultyServe (map string_bytes words.now)) (λ c. IsServeCall (map string_bytes words.now) c.binary.now (option_map (λ p. p.now) c.hardware) c.input.now c.output.now) }
+{
+    match words {
+        [command, binary, facts, hardware, input, output]
+            if is_word(command, "serve")
+                && is_word(facts, "-")
+                && is_apart(binary, hardware, input, output) => {
+            Some(ServeCall {
+                binary: binary.as_str(),
+                hardware: optional_path(hardware),
+                input: input.as_str(),
+                output: output.as_str(),
             })
         }
         _ => None,

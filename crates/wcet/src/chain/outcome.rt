@@ -1,4 +1,4 @@
-ghost use Rattle.std.specs.Prelude.{◌≡◌, ℕ, List, map, None, Ok, IfOk};
+ghost use Rattle.std.specs.Prelude.{◌≡◌, ℕ, List, map, Ok, IfOk};
 ghost use Rattle.wc_model.specs.Chain.{IsChain};
 ghost use Rattle.wc_model.specs.Words.{find_of};
 ghost use Rattle.wc_model.specs.declared.flow_facts.Fact.{Fact};
@@ -19,7 +19,6 @@ pub fn chain(
     hardware: &Hardware,
     name: &[u8],
 ) -> Result<Outcome, AllocError>
-    requires uncached { hardware.now.cache ≡ None }
     ensures { IfOk result (IsChain image.now (map (λ f. f.1) facts.now) hardware.now name.now) }
 {
     match find(image, name) {

@@ -1,0 +1,60 @@
+-- The session of the command `serve`: one legal history, and the replies and bounds that are those of its entries.
+use Rattle.std.specs.Prelude.{◌≡◌, ◌≤◌, ℕ, Bool, true, false, List, [], ◌∷◌, ◌++◌, map, Option, Some, Ok, IfSome, IsSome, IsTrue}
+use Rattle.wc_core.specs.Holds.{plain_opening}
+use Rattle.wc_io.specs.Lines.{LineResult, lines_of}
+use Rattle.wc_io.specs.Rows.{Row, row_failed}
+use Rattle.wc_model.specs.declared.entries.Ended.{Ended}
+use Rattle.wc_model.specs.declared.entries.Ended.TheVariants.{ReadFault, WriteFault}
+use Rattle.wc_model.specs.declared.entries.Entry.{Entry}
+use Rattle.wc_model.specs.declared.elf_image.Image.{Image}
+use Rattle.wc_model.specs.declared.machine.Hardware.{Hardware}
+use Rattle.wc_model.specs.declared.values.Outcome.TheVariants.{Bound, Fault, Memory}
+use Rattle.wc_model.specs.Chain.{chain}
+use Rattle.wc_model.specs.History.{Chain, EachRight, IsLegal, opening_entries}
+use Rattle.wc_model.specs.Paths.{IsPath, path_cycles}
+use Rattle.wc_model.specs.Positions.{start_of}
+use Rattle.wc_model.specs.Steps.{Step}
+use Rattle.wc_model.specs.Words.{find_of}
+use Rattle.wc_session.specs.Served.{IsServed}
+use Rattle.wcet.specs.declared.loading.Loaded.{Loaded}
+use Rattle.wcet.specs.Files.{Holds, AreInputs, paths_of}
+use Rattle.wcet.specs.Loading.{OpensAll}
+
+-- a bound is at least the cycles of every path of the named function on these inputs
+abbrev pub covers : Chain
+covers inputs name (Bound bound) =
+    (start : ℕ) (path : List Step) → find_of inputs.image name ≡ Ok start → IsPath inputs.image (map (λ f. f.1) inputs.facts) start (start_of start) path
+    → path_cycles inputs.image inputs.hardware.cycles path ≤ bound
+covers inputs name (Fault fault) = Unit {0}
+covers inputs name Memory = Unit {0}
+
+-- What a session leaves over these inputs: its history is legal, and its replies are those of the lines that were read.
+pub record IsRun (answers : Chain) (image : Image) (hardware : Hardware) (script : Option (List LineResult)) (held replies : Option (List ℕ)) (history : List Entry) (end : Ended) : Type 0 where
+  pub legal : IsLegal answers (plain_opening image hardware []) history
+  pub served : IsServed 1 image (opening_entries (plain_opening image hardware [])) history script held replies end
+
+-- The same between opening and giving back the two files of a session: the script is that of IN, and the replies stand
+-- in OUT. A read or a write failed only where the row of IN or of OUT says so.
+pub record IsSessionOver (loaded : Loaded) (tells : Bool) (files now : List ℕ → Option (List ℕ)) (input output : List ℕ) (old new : List Row) (history : List Entry) (end : Ended) : Type 0 where
+  pub script : Option (List LineResult)
+  pub script_is : IfSome (files input) (λ bytes. script ≡ Some (lines_of bytes))
+  pub script_told : IsTrue tells → IsSome (files input)
+  pub held : Option (List ℕ)
+  pub replies : Option (List ℕ)
+  pub empty : IsTrue tells → held ≡ Some []
+  pub output_is : IsTrue tells → now output ≡ replies
+  pub run : IsRun chain loaded.image loaded.hardware script held replies history end
+  pub bounds : EachRight covers loaded.image [] history
+  pub read_failed : Bool
+  pub write_failed : Bool
+  pub rows : new ≡ old ++ row_failed input false read_failed ∷ row_failed output true write_failed ∷ []
+  pub read_fault : end ≡ ReadFault → read_failed ≡ true
+  pub write_fault : end ≡ WriteFault → write_failed ≡ true
+
+-- The session over what the files of a call say.
+pub record IsSession (tells : Bool) (files now : List ℕ → Option (List ℕ)) (binary : List ℕ) (hardware : Option (List ℕ)) (input output : List ℕ) (old new : List Row) (history : List Entry) (end : Ended) : Type 0 where
+  pub loaded : Loaded
+  pub inputs : AreInputs (Holds tells files) binary hardware loaded
+  pub before : List Row
+  pub opened : OpensAll (paths_of binary hardware) old before
+  pub session : IsSessionOver loaded tells files now input output before new history end

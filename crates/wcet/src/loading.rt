@@ -1,0 +1,148 @@
+//! The files of a call, read and decoded one after the other.
+ghost use Rattle.std.specs.Prelude.{◌≡◌, ℕ, List, option_map};
+ghost use Rattle.wc_base.specs.declared.faults.FileWord.TheVariants.{Binary, Hardware as HardwareFile};
+ghost use Rattle.wc_model.specs.Edits.{default_hardware as default_hardware_of};
+ghost use Rattle.wcet.specs.Files.{Holds, Within, ImageSays, TimingSays};
+ghost use Rattle.wcet.specs.Loading.{AreBytes, Decodes, LoadsFile, LoadsHardware, Loads};
+
+use std::alloc::Global;
+use wc_base::{Fault, FileWord, Trouble, UnbuiltWord};
+use wc_elf::read_image;
+use wc_hw::read_hardware;
+use wc_io::{House, ReadFile, read_file};
+use wc_model::{Cycles, Hardware, Image};
+
+/// The longest file that is read, in bytes.
+pub const MOST_BYTES: usize = 16_777_216;
+
+/// What the files of a call say: the program, and the timing of its processor.
+#[derive(Drop)]
+pub struct Loaded {
+    pub image: Image,
+    pub hardware: Hardware,
+}
+
+/// Why a file wasn't loaded.
+#[derive(Clone, Copy)]
+pub enum Unloaded {
+    ReadFault,
+    Refused(Fault),
+    Memory,
+}
+
+/// Each class takes one cycle, nothing else takes any, and there is no cache.
+fn default_hardware() -> Hardware
+    ensures { result ≡ default_hardware_of }
+{
+    Hardware {
+        cycles: Cycles {
+            alu: 1,
+            mul: 1,
+            div: 1,
+            load: 1,
+            store: 1,
+            multi: 1,
+            branch: 1,
+            system: 1,
+            taken: 0,
+            per_register: 0,
+            hit: 0,
+            miss: 0,
+        },
+        cache: None,
+    }
+}
+
+// The bytes of a file that isn't too long.
+fn load_bytes<H: House>(
+    alloc: Global,
+    house: &mut H,
+    path: &str,
+    word: FileWord,
+) -> Result<Vec<u8>, Unloaded>
+    ensures file { LoadsFile (Holds (H.tells house.old) (H.file house.old) path.now) (Within word AreBytes) path.now (H.opened house.old) (H.opened house.new) result }
+    ensures files { (p : List ℕ) → H.file house.new p ≡ H.file house.old p }
+    ensures tells { H.tells house.new ≡ H.tells house.old }
+{
+    match read_file(alloc, house, path, MOST_BYTES) {
+        Ok(bytes) => Ok(bytes),
+        Err(ReadFile::Long) => Err(Unloaded::Refused(Fault::LongFile(word))),
+        Err(ReadFile::Failed) => Err(Unloaded::ReadFault),
+        Err(ReadFile::Memory(_)) => Err(Unloaded::Memory),
+    }
+}
+
+fn decode_image(alloc: Global, bytes: Vec<u8>) -> Result<Image, Unloaded>
+    ensures { Decodes ImageSays bytes.items result }
+{
+    match read_image(alloc, bytes) {
+        Ok(image) => Ok(image),
+        Err(Trouble::Fault(fault)) => Err(Unloaded::Refused(fault)),
+        Err(Trouble::Memory(_)) => Err(Unloaded::Memory),
+    }
+}
+
+fn decode_hardware(alloc: Global, bytes: &[u8]) -> Result<Hardware, Unloaded>
+    ensures { Decodes TimingSays bytes.now result }
+{
+    match read_hardware(alloc, bytes) {
+        Ok(hardware) => match hardware.cache {
+            None => Ok(hardware),
+            Some(_) => Err(Unloaded::Refused(Fault::Unbuilt(UnbuiltWord::Icache))),
+        },
+        Err(Trouble::Fault(fault)) => Err(Unloaded::Refused(fault)),
+        Err(Trouble::Memory(_)) => Err(Unloaded::Memory),
+    }
+}
+
+/// The image of a binary.
+pub fn load_binary<H: House>(alloc: Global, house: &mut H, path: &str) -> Result<Image, Unloaded>
+    ensures file { LoadsFile (Holds (H.tells house.old) (H.file house.old) path.now) (Within Binary ImageSays) path.now (H.opened house.old) (H.opened house.new) result }
+    ensures files { (p : List ℕ) → H.file house.new p ≡ H.file house.old p }
+    ensures tells { H.tells house.new ≡ H.tells house.old }
+{
+    match load_bytes(alloc, house, path, FileWord::Binary) {
+        Ok(bytes) => decode_image(alloc, bytes),
+        Err(unloaded) => Err(unloaded),
+    }
+}
+
+/// The hardware that a file states, which has no cache, or the default one where no path is given.
+pub fn load_hardware<H: House>(
+    alloc: Global,
+    house: &mut H,
+    path: Option<&str>,
+) -> Result<Hardware, Unloaded>
+    ensures file { LoadsHardware (Holds (H.tells house.old) (H.file house.old)) (option_map (λ p. p.now) path.entry) (H.opened house.old) (H.opened house.new) result }
+    ensures files { (p : List ℕ) → H.file house.new p ≡ H.file house.old p }
+    ensures tells { H.tells house.new ≡ H.tells house.old }
+{
+    let Some(path) = path else {
+        return Ok(default_hardware());
+    };
+    match load_bytes(alloc, house, path, FileWord::Hardware) {
+        Ok(bytes) => decode_hardware(alloc, bytes.as_slice()),
+        Err(unloaded) => Err(unloaded),
+    }
+}
+
+/// The binary and then the hardware, or the first reason why there is none.
+pub fn load<H: House>(
+    alloc: Global,
+    house: &mut H,
+    binary: &str,
+    hardware: Option<&str>,
+) -> Result<Loaded, Unloaded>
+    ensures inputs { Loads (Holds (H.tells house.old) (H.file house.old)) binary.now (option_map (λ p. p.now) hardware.entry) (H.opened house.old) (H.opened house.new) result }
+    ensures files { (p : List ℕ) → H.file house.new p ≡ H.file house.old p }
+    ensures tells { H.tells house.new ≡ H.tells house.old }
+{
+    let image = match load_binary(alloc, house, binary) {
+        Ok(image) => image,
+        Err(unloaded) => return Err(unloaded),
+    };
+    match load_hardware(alloc, house, hardware) {
+        Ok(hardware) => Ok(Loaded { image, hardware }),
+        Err(unloaded) => Err(unloaded),
+    }
+}

@@ -1,0 +1,155 @@
+//! One session over a core of its own.
+ghost use Rattle.std.specs.Prelude.{◌≡◌, ◌≤◌, ◌∷◌, [], false, map, option_map, All, IfOk, IfErr};
+ghost use Rattle.wc_core.specs.Answers.{AreRuns, LeavesFree, RunsNothing};
+ghost use Rattle.wc_core.specs.Features.{Each};
+ghost use Rattle.wc_core.specs.Holds.{bound_alone, plain_opening};
+ghost use Rattle.wc_io.specs.Causes.{Rose};
+ghost use Rattle.wc_io.specs.Lines.{lines_of};
+ghost use Rattle.wc_model.specs.Chain.{chain};
+ghost use Rattle.wc_model.specs.History.{IsLegal, opening_entries};
+ghost use Rattle.wcet.specs.ReportText.{IsOfKinds};
+ghost use Rattle.wcet.specs.Session.{IsRun};
+ghost use Rattle.wcet.specs.Starts.{all_starts, bound_runs};
+
+use crate::loading::Loaded;
+use crate::work::{ChainWork, bound_describes};
+use std::alloc::{AllocError, Global};
+use std::sync::{Arc, Wait};
+use wc_core::{Core, Processor, Work};
+use wc_io::{Lines, Sink, Source};
+use wc_model::{Ended, Entry, Image};
+use wc_session::{SessionEnd, session};
+
+/// What a session left: the history, the runs of its work, and what it gave back.
+#[derive(Drop)]
+pub struct Ran<S: Source + Drop, K: Sink + Drop> {
+    pub history: Vec<Entry>,
+    pub runs: u64,
+    pub ended: Ended,
+    pub source: S,
+    pub sink: K,
+}
+
+// A core over the loaded inputs, without facts and for one session.
+fn core_over<W: Work>(
+    alloc: Global,
+    loaded: Loaded,
+    works: Vec<W>,
+) -> Result<(Core<W>, Arc<Image>), AllocError>
+    requires described { W.described ≡ bound_alone ∷ [] }
+    requires kinds { map W.kind_of works.items ≡ 11 ∷ [] }
+    requires runs { map W.runs_of works.items ≡ 0 ∷ [] }
+    requires ready { Each W.may_run works.items }
+    ensures image { IfOk result (λ r. r.1.value ≡ loaded.image) }
+    ensures opening { IfOk result (λ r. r.0.opening ≡ plain_opening loaded.image loaded.hardware []) }
+    ensures history { IfOk result (λ r. r.0.history ≡ opening_entries r.0.opening) }
+    ensures legal { IfOk result (λ r. IsLegal W.chain r.0.opening r.0.history) }
+    ensures free { IfOk result (λ r. LeavesFree r.0.opening r.0.history 1) }
+{
+    let Loaded { image, hardware } = loaded;
+    let image = Arc::new(alloc, image)?;
+    let shared = Arc::try_clone(&image)?;
+    let kinds = bound_describes(alloc)?;
+    let core = Core::new(alloc, shared, kinds, works, hardware, Vec::new(alloc), 1)?;
+    Ok((core, image))
+}
+
+// Runs the session to its end.
+fn run_core<R: Wait, W: Work + Send, S: Source + Drop, K: Sink + Drop>(
+    rt: &R,
+    alloc: Global,
+    mut core: Core<W>,
+    image: &Image,
+    lines: Lines<S>,
+    sink: K,
+) -> Ran<S, K>
+    requires opening { core.opening ≡ plain_opening image.now core.opening.hardware [] }
+    requires history { core.history ≡ opening_entries core.opening }
+    requires legal { IsLegal W.chain core.opening core.history }
+    requires free { LeavesFree core.opening core.history 1 }
+    requires unread { lines.ended ≡ false }
+    ensures run { IsRun W.chain image.now core.opening.hardware lines.rest (K.held sink) (K.held result.sink) result.history.items result.ended }
+    ensures rests { RunsNothing core.opening result.history.items }
+    ensures runs { AreRuns core.opening result.history.items (result.runs ∷ []) }
+    ensures source { (S.place result.source ≡ lines.place) × (lines.faults ≤ S.faults result.source) }
+    ensures sink { (K.place result.sink ≡ K.place sink) × (K.faults sink ≤ K.faults result.sink) }
+    ensures read_fault { result.ended ≡ Ended.ReadFault → Rose lines.faults (S.faults result.source) }
+    ensures write_fault { result.ended ≡ Ended.WriteFault → Rose (K.faults sink) (K.faults result.sink) }
+{
+    let SessionEnd {
+        source,
+        sink,
+        ended,
+    } = session(rt, alloc, &mut core, image, lines, sink);
+    core.history();
+    let (history, works) = core.close();
+    Ran {
+        history,
+        runs: works[0].runs(),
+        ended,
+        source,
+        sink,
+    }
+}
+
+/// One session over the loaded inputs. Where there is no memory to begin, the source and the sink come back as they were.
+pub fn run_session<R: Wait, W: Work + Send, S: Source + Drop, K: Sink + Drop>(
+    rt: &R,
+    alloc: Global,
+    loaded: Loaded,
+    works: Vec<W>,
+    source: S,
+    sink: K,
+) -> Result<Ran<S, K>, (S, K)>
+    requires described { W.described ≡ bound_alone ∷ [] }
+    requires kinds { map W.kind_of works.items ≡ 11 ∷ [] }
+    requires runs { map W.runs_of works.items ≡ 0 ∷ [] }
+    requires ready { Each W.may_run works.items }
+    ensures back { IfErr result (λ e. (e.0 ≡ source) × (e.1 ≡ sink)) }
+    ensures run { IfOk result (λ r. IsRun W.chain loaded.image loaded.hardware (option_map lines_of (S.left source)) (K.held sink) (K.held r.sink) r.history.items r.ended) }
+    ensures rests { IfOk result (λ r. RunsNothing (plain_opening loaded.image loaded.hardware []) r.history.items) }
+    ensures runs { IfOk result (λ r. AreRuns (plain_opening loaded.image loaded.hardware []) r.history.items (r.runs ∷ [])) }
+    ensures source { IfOk result (λ r. (S.place r.source ≡ S.place source) × (S.faults source ≤ S.faults r.source)) }
+    ensures sink { IfOk result (λ r. (K.place r.sink ≡ K.place sink) × (K.faults sink ≤ K.faults r.sink)) }
+    ensures read_fault { IfOk result (λ r. r.ended ≡ Ended.ReadFault → Rose (S.faults source) (S.faults r.source)) }
+    ensures write_fault { IfOk result (λ r. r.ended ≡ Ended.WriteFault → Rose (K.faults sink) (K.faults r.sink)) }
+{
+    let (core, image) = match core_over(alloc, loaded, works) {
+        Ok(both) => both,
+        Err(AllocError) => return Err((source, sink)),
+    };
+    match Lines::new(alloc, source) {
+        Ok(lines) => Ok(run_core(rt, alloc, core, &image, lines, sink)),
+        Err((source, AllocError)) => Err((source, sink)),
+    }
+}
+
+/// The session by the shipped work, whose runs are the starts of the bound.
+pub fn run_shipped<R: Wait, S: Source + Drop, K: Sink + Drop>(
+    rt: &R,
+    alloc: Global,
+    loaded: Loaded,
+    source: S,
+    sink: K,
+) -> Result<Ran<S, K>, (S, K)>
+    ensures back { IfErr result (λ e. (e.0 ≡ source) × (e.1 ≡ sink)) }
+    ensures run { IfOk result (λ r. IsRun chain loaded.image loaded.hardware (option_map lines_of (S.left source)) (K.held sink) (K.held r.sink) r.history.items r.ended) }
+    ensures runs { IfOk result (λ r. bound_runs r.runs ≡ all_starts r.history.items) }
+    ensures kinds { IfOk result (λ r. All IsOfKinds r.history.items) }
+    ensures source { IfOk result (λ r. (S.place r.source ≡ S.place source) × (S.faults source ≤ S.faults r.source)) }
+    ensures sink { IfOk result (λ r. (K.place r.sink ≡ K.place sink) × (K.faults sink ≤ K.faults r.sink)) }
+    ensures read_fault { IfOk result (λ r. r.ended ≡ Ended.ReadFault → Rose (S.faults source) (S.faults r.source)) }
+    ensures write_fault { IfOk result (λ r. r.ended ≡ Ended.WriteFault → Rose (K.faults sink) (K.faults r.sink)) }
+{
+    let Ok(work) = Box::new(alloc, ChainWork::new()) else {
+        return Err((source, sink));
+    };
+    let mut works: Vec<Box<dyn Processor + Send>> = Vec::new(alloc);
+    let Ok(()) = works.push(work) else {
+        return Err((source, sink));
+    };
+    match run_session(rt, alloc, loaded, works, source, sink) {
+        Ok(ran) => Ok(ran),
+        Err(back) => Err(back),
+    }
+}
