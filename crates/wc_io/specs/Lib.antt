@@ -7,5 +7,6 @@ pub mod Parts
 pub mod Reading
 pub mod Rows
 pub mod Tails
+pub mod Telling
 pub mod Texts
 pub mod Writing

@@ -1,5 +1,6 @@
 ghost use Rattle.std.specs.Prelude.{◌≡◌, ◌≢◌, ℕ, ◌-◌, Bool, List, [], Option, Some, length, IfOk, OnOk, OnErr, IfSome, IsSome, IsTrue, true, false};
 ghost use Rattle.wc_io.specs.Rows.{Row, AddsRow, IsRowOf, marked, path_at};
+ghost use Rattle.wc_io.specs.Telling.{TellsFile};
 
 use crate::{Sink, Source};
 use std::alloc::AllocError;
@@ -45,8 +46,8 @@ pub trait House {
         ensures place { IfOk result (λ s. Self.Sink.place s ≡ length (opened self.new)) }
         ensures fresh { IfOk result (λ s. Self.Sink.faults s ≡ 0) }
         ensures empty { IfOk result (λ s. IfSome (Self.Sink.held s) (λ bytes. bytes ≡ [])) }
-        ensures held { IfOk result (λ s. IsTrue (tells self.old) → Self.Sink.held s ≡ Some []) }
-        ensures emptied { OnOk result (IsTrue (tells self.old) → file self.new path.now ≡ Some []) }
+        ensures held { IfOk result (λ s. TellsFile (tells self.old) (file self.old path.now) → Self.Sink.held s ≡ Some []) }
+        ensures emptied { OnOk result (TellsFile (tells self.old) (file self.old path.now) → file self.new path.now ≡ Some []) }
         ensures kept { OnErr result ((p : List ℕ) → file self.new p ≡ file self.old p) }
         ensures others { (p : List ℕ) → p ≢ path.now → file self.new p ≡ file self.old p }
         ensures tells { tells self.new ≡ tells self.old };
