@@ -106,3 +106,63 @@ fn hardware_prints_as_it_was_read(rt: HostRuntime) -> Result<(), Fail> {
     assert_eq!(rt; most.cycles.per_register, 65535);
     Ok(())
 }
+
+fn read_parts(alloc: Global, parts: [&str; 3]) -> Result<Hardware, Trouble> {
+    let mut text = Vec::new(alloc);
+    for part in parts {
+        text.extend_from_slice(part.as_bytes())?;
+    }
+    read_hardware(alloc, &text)
+}
+
+#[test]
+fn the_greatest_number_of_a_field_is_65535(rt: HostRuntime) {
+    let cycles = "{\"cycles\":{";
+    let hits = "{\"icache\":{\"sets\":1,\"ways\":1,\"line\":16,\"start\":\"any\",";
+    let fields = [
+        (cycles, "\"alu\":", FieldWord::Alu),
+        (cycles, "\"mul\":", FieldWord::Mul),
+        (cycles, "\"div\":", FieldWord::Div),
+        (cycles, "\"load\":", FieldWord::Load),
+        (cycles, "\"store\":", FieldWord::Store),
+        (cycles, "\"multi\":", FieldWord::Multi),
+        (cycles, "\"branch\":", FieldWord::Branch),
+        (cycles, "\"system\":", FieldWord::System),
+        (cycles, "\"taken\":", FieldWord::Taken),
+        (cycles, "\"per_register\":", FieldWord::PerRegister),
+        (hits, "\"miss\":65535,\"hit\":", FieldWord::Hit),
+        (hits, "\"hit\":0,\"miss\":", FieldWord::Miss),
+    ];
+    for (object, field, word) in fields {
+        let most = read_parts(rt.alloc(), [object, field, "65535}}"]);
+        assert_eq!(rt; most.is_ok(), true, "{field}");
+        let more = read_parts(rt.alloc(), [object, field, "65536}}"]).err();
+        assert_eq!(rt;
+            more,
+            Some(Trouble::Fault(Fault::BadField(word))),
+            "{field}"
+        );
+    }
+}
+
+#[test]
+fn a_size_of_the_cache_is_none_of_65535_and_65536(rt: HostRuntime) {
+    let sizes = [
+        ("{\"icache\":{\"sets\":", FieldWord::Sets),
+        ("{\"icache\":{\"sets\":1,\"ways\":", FieldWord::Ways),
+        (
+            "{\"icache\":{\"sets\":1,\"ways\":1,\"line\":",
+            FieldWord::Line,
+        ),
+    ];
+    for (object, word) in sizes {
+        for number in ["65535", "65536"] {
+            let got = read_parts(rt.alloc(), [object, number, "}}"]).err();
+            assert_eq!(rt;
+                got,
+                Some(Trouble::Fault(Fault::BadField(word))),
+                "{number}"
+            );
+        }
+    }
+}
