@@ -73,9 +73,11 @@ fn put_strings(file: &mut Vec<u8>, names: &[(Text, Addr)]) -> Result<(), AllocEr
     ensures { OnOk result (file.new.items ≡ file.old.items ++ string_table names.now) }
 {
     file.push(0)?;
-    for name in names {
+    let mut rest = names;
+    while let Some((name, others)) = rest.split_first() {
         file.extend_from_slice(name.0.items())?;
         file.push(0)?;
+        rest = others;
     }
     Ok(())
 }
