@@ -1,252 +1,328 @@
--- What comes home: a value that is kept, or want of memory.
-use Rattle.std.proofs.Common.{◌≡◌, ℕ, suc, ◌+◌, ◌≤◌, Bool, true, false, ◌||◌, List, [], ◌∷◌, ◌++◌, length, drop, map, Option, None, Some, IfSome, nat_le, refl, sym, ap, subst, ◌∙◌, arith, length-append, if◌then◌else◌}
+-- What comes home: want of memory, a value that is dropped, or one that is kept.
+use Rattle.std.proofs.Common.{◌≡◌, ℕ, ◌+◌, ◌-◌, ◌≤◌, Bool, true, false, not, ◌||◌, ◌==◌, List, [], ◌∷◌, ◌++◌, length, map, Option, None, Some, IfSome, refl, sym, ap, subst, ◌∙◌, arith, eqb-true, if◌then◌else◌}
 use Rattle.std.proofs.lemmas.List.{append-nil}
-use Rattle.std.proofs.lemmas.Bool.Decides.{leb_tells}
-use Rattle.std.specs.Cmp.Lexicographic.{same_text}
 use Rattle.std.specs.Global.{Global}
 use Rattle.std.specs.declared.sync.Arc.{Arc}
-use Rattle.wc_model.specs.declared.elf_image.Image.{Image}
-use Rattle.wc_model.specs.declared.entries.End.TheVariants.{Kept as KeptEnd, Memory}
+use Rattle.wc_model.specs.declared.entries.End.{End}
+use Rattle.wc_model.specs.declared.entries.End.TheVariants.{Kept as KeptEnd, Dropped as DroppedEnd, Memory as MemoryEnd}
 use Rattle.wc_model.specs.declared.entries.Entry.{Entry}
 use Rattle.wc_model.specs.declared.entries.Entry.TheVariants.{Finish}
-use Rattle.wc_model.specs.declared.flow_facts.Fact.{Fact}
-use Rattle.wc_model.specs.declared.machine.Hardware.{Hardware}
 use Rattle.wc_model.specs.Closures.{has_kind}
-use Rattle.wc_model.specs.Edits.{Setting, after_edits, edits_of}
-use Rattle.wc_model.specs.History.{Opening, State, Row, Run, Ask, Chain, IsLegal, open_ask, own_run, ask_at, is_session, inputs_at, same_name, with_room, bound_kind}
-use Rattle.wc_model.proofs.Replays.{Kept}
+use Rattle.wc_model.specs.Edits.{Setting}
+use Rattle.wc_model.specs.History.{Opening, State, Run, Ask, Chain, IsLegal, state_after, is_session, own_run, without_own, ask_at, with_home, home_of, stamp_at, count_of, right_end, stored as stored_at, rows_after, ask_after, after_finish, bound_kind}
+use Rattle.wc_model.proofs.Sharing.{asked_same, asked_other, length-with_ask, in_other, LeavesOthers}
 use Rattle.wc_core.specs.declared.store.Slot.{Slot}
+use Rattle.wc_core.specs.Answers.{KeepsOthers, is_current}
 use Rattle.wc_core.specs.Features.{Each}
-use Rattle.wc_core.specs.Fits.{FitsTicket, FitsLanded, run_of, names_needed}
-use Rattle.wc_core.specs.Holds.{plain_opening, plain_state, row_of, has_value, has_slot, filled, with_value, AreFeatures, IsTurnOf, IsCore, entries_needed}
-use Rattle.wc_core.specs.Views.{KnownTicket, KnownLanded, ask_of, value_of}
-use Rattle.wc_core.proofs.Cores.{grown, rebuilt, kept_of, core_legal, core_inputs_at, some_same}
-use Rattle.wc_core.proofs.Steps.{step_kept, step_memory}
-use Rattle.wc_core.proofs.Turning.{if_some, session_is}
+use Rattle.wc_core.specs.Fits.{EachFeature, FitsTicket, FitsLanded, names_needed, run_of}
+use Rattle.wc_core.specs.Holds.{Basis, Stock, opening_of, row_of, entries_needed, ask_needs, asks_need, has_value, has_slot, with_value, AreFeatures, IsAtHome, WorkIs, IsCore}
+use Rattle.wc_core.specs.Views.{Known, KnownTicket, KnownLanded, ask_of, landed_of, held}
+use Rattle.wc_core.proofs.Cores.{known, moved, restock, core_opened, IsAsked, IsStable, now_here, stamp_here}
+use Rattle.wc_core.proofs.Goings.{asked_when}
+use Rattle.wc_core.proofs.OpenAsks.{some_same, needs_with, needs_at, pinned_with}
+use Rattle.wc_core.proofs.Steps.{step_finish}
+use Rattle.wc_core.proofs.Stored.{same_number, stored_rows}
+use Rattle.wc_core.proofs.Values.{value_features, value_length}
 
-abbrev pub plain_run : List ℕ → ℕ → ℕ → Run
-plain_run name stamp runs = record { session = 1; kind = bound_kind; name = name; stamp = stamp; runs = runs }
+pub record IsFlown {V : Type 0} (feature : ℕ → Setting → List ℕ → V → Type 0) (b : Basis) (st : State) (d : Stock V) (long : ℕ) (l : KnownLanded V) : Type 0 where
+  pub asked : IsAsked feature b st d l.ticket
+  pub runs : ℕ
+  pub ran : l.runs ≡ runs + 1
+  pub flies : own_run l.ticket.session st.out ≡ Some (run_of l.ticket l.kind l.stamp runs)
+  pub out_is : st.out ≡ run_of l.ticket l.kind l.stamp runs ∷ []
+  pub few : runs ≤ long
+  pub kind_is : l.kind ≡ bound_kind
+  pub home_is : d.home ≡ []
+  pub needs : entries_needed (ask_of l.ticket) ≡ 3
+  pub owes : d.owed + 1 ≡ asks_need st.asks
+  pub absent : l.stamp ≡ d.stamp → has_value l.ticket.name d.slots ≡ false
+  pub stamp_is : l.ticket.stamp ≡ l.stamp
+  pub gave : IfSome l.gave (λ v. feature l.kind l.ticket.inputs l.ticket.name v)
+  pub names : 3 ≤ l.ticket.spare
 
-pub record IsFlown {V : Type 0} (chain : Chain) (o : Opening) (h : List Entry) (inputs : Setting) (count stamp : ℕ) (slots : List (Slot V)) (home : List ℕ) (room : ℕ) (t : KnownTicket V) (run : Run) : Type 0 where
-  pub one : t.session ≡ 1
-  pub run_is : run ≡ plain_run t.name stamp run.runs
-  pub kept : Kept chain o h (plain_state (edits_of h) (map (row_of stamp) slots) [] (plain_run t.name stamp run.runs ∷ []) (Some (ask_of t)))
-  pub nobody : home ≡ []
-  pub here : t.at ≡ count
-  pub lacks : has_kind bound_kind (ask_of t).kinds ≡ false
-  pub quiet : t.memory ≡ false
-  pub absent : has_value t.name slots ≡ false
-  pub inputs_are : t.inputs ≡ inputs
-  pub within : length h + 2 ≤ room
-  pub ran : run.runs ≤ length h
+own_case : (session : ℕ) (run other : Run) (mine : Bool) → (if mine then Some run else None) ≡ Some other → run ≡ other
+own_case session run other true is = some_same run other is
+own_case session run other false is = cc
 
-flown_case : {V : Type 0} (chain : Chain) (o : Opening) (h : List Entry) (count stamp room : ℕ) (slots : List (Slot V)) (rows : List Row) (ask : Option Ask) (home : List ℕ) (out : List Run) (own : Ask) (run : Run)
-    → ask ≡ Some own → own_run 1 out ≡ Some run → IsTurnOf count stamp slots ask home out → Kept chain o h (plain_state (edits_of h) rows home out ask)
-    → length h + entries_needed ask home ≤ room → Each (λ (r : Run). r.runs ≤ length h) out
-    → (run ≡ plain_run own.name stamp run.runs) × Kept chain o h (plain_state (edits_of h) rows [] (plain_run own.name stamp run.runs ∷ []) (Some own)) × (home ≡ [])
-    × (own.at ≡ count) × (has_kind bound_kind own.kinds ≡ false) × (own.memory ≡ false) × (has_value own.name slots ≡ false) × (length h + 2 ≤ room) × (run.runs ≤ length h)
-flown_case chain o h count stamp room slots rows None home out own run is flies turn kept within ran = cc
-flown_case chain o h count stamp room slots rows (Some a) (runs ∷ []) out own run is flies turn kept within ran =
-    let none = ap (own_run 1) (sym turn.0) ∙ flies in cc
-flown_case chain o h count stamp room slots rows (Some a) [] out own run is flies turn kept within ran =
-    let same : a ≡ own = some_same a own is in
-    let runs : ℕ = turn.4.0 in
-    let out_is : out ≡ plain_run a.name stamp runs ∷ [] = turn.4.1 in
-    let this : plain_run a.name stamp runs ≡ run = some_same _ _ (sym (ap (own_run 1) out_is) ∙ flies) in
-    let runs_are : runs ≡ run.runs = ap (λ (r : Run). r.runs) this in
-    let K : List Run → Type 0 = λ l. Kept chain o h (plain_state (edits_of h) rows [] l (Some a)) in
-    let N : ℕ → Type 0 = λ n. Kept chain o h (plain_state (edits_of h) rows [] (plain_run a.name stamp n ∷ []) (Some a)) in
-    let A : Ask → Type 0 = λ b. Kept chain o h (plain_state (edits_of h) rows [] (plain_run b.name stamp run.runs ∷ []) (Some b)) in
-    let R : List Run → Type 0 = λ l. Each (λ (r : Run). r.runs ≤ length h) l in
-    let bound = subst R out_is ran in (
-      sym this ∙ ap (λ n. plain_run a.name stamp n) runs_are ∙ ap (λ (b : Ask). plain_run b.name stamp run.runs) same,
-      subst A same (subst N runs_are (subst K out_is kept)),
-      refl,
-      ap (λ (b : Ask). b.at) (sym same) ∙ turn.0,
-      ap (λ (b : Ask). has_kind bound_kind b.kinds) (sym same) ∙ turn.1,
-      ap (λ (b : Ask). b.memory) (sym same) ∙ turn.2,
-      ap (λ (b : Ask). has_value b.name slots) (sym same) ∙ turn.3,
-      within,
-      omega (arith, bound.0, runs_are),
-    )
-flown_case chain o h count stamp room slots rows (Some a) (x ∷ y ∷ z) out own run is flies turn kept within ran = absurd turn
-
-pub core_flown : {V : Type 0} (chain : Chain) (feature : ℕ → Setting → List ℕ → V → Type 0) (image : Image) (hardware : Hardware) (facts : List Fact) (h : List Entry) (inputs : Setting) (count stamp : ℕ) (slots : List (Slot V)) (home : List ℕ) (room : ℕ) (l : KnownLanded V)
-    → IsCore chain (feature 11) (plain_opening image hardware facts) h inputs count stamp slots home room
-    → (fits : FitsLanded feature (plain_opening image hardware facts) h l)
-    → IsFlown chain (plain_opening image hardware facts) h inputs count stamp slots home room l.ticket (run_of l.ticket l.kind l.stamp fits.runs)
-core_flown chain feature image hardware facts h inputs count stamp slots home room l core fits =
-    let o : Opening = plain_opening image hardware facts in
-    let t : KnownTicket _ = l.ticket in
-    let st : State = plain_state (edits_of h) (map (row_of stamp) slots) home core.out core.ask in
-    let run : Run = run_of l.ticket l.kind l.stamp fits.runs in
-    let same : fits.st ≡ st = some_same _ _ (sym fits.state ∙ core.state) in
-    let asked : open_ask o st t.session ≡ Some (ask_of t) = ap (λ s. open_ask o s t.session) (sym same) ∙ fits.is_open.ask in
-    let both = if_some (is_session o t.session) (ask_at t.session st.asks) (ask_of t) asked in
-    let one : t.session ≡ 1 = session_is t.session both.0 in
-    let ask_is : core.ask ≡ Some (ask_of t) = ap (λ s. ask_at s st.asks) (sym one) ∙ both.1 in
-    let flies : own_run 1 core.out ≡ Some run = ap (λ s. own_run s core.out) (sym one) ∙ ap (λ (s : State). own_run t.session s.out) (sym same) ∙ fits.flies in
-    let rest = flown_case chain o h count stamp room slots (map (row_of stamp) slots) core.ask home core.out (ask_of t) run ask_is flies core.turn (kept_of chain (feature 11) o h inputs count stamp slots home room core) core.within core.ran.1 in
+flown_case : {V : Type 0} (chain : Chain) (feature : ℕ → Setting → List ℕ → V → Type 0) (b : Basis) (st : State) (d : Stock V) (long : ℕ) (l : KnownLanded V) (runner : Option ℕ) (runs : ℕ)
+    → WorkIs (opening_of b) st d long runner → IsAsked feature b st d l.ticket
+    → l.runs ≡ runs + 1 → own_run l.ticket.session st.out ≡ Some (run_of l.ticket l.kind l.stamp runs)
+    → l.stamp ≡ stamp_at (opening_of b) st l.kind l.ticket.at → IfSome l.gave (λ v. feature l.kind l.ticket.inputs l.ticket.name v) → 3 ≤ l.ticket.spare
+    → IsFlown feature b st d long l
+flown_case chain feature b st d long l None runs work asked ran flies stamp gave names =
+    absurd (let none = sym (ap (own_run l.ticket.session) work.out_is) ∙ flies in cc)
+flown_case chain feature b st d long l (Some s) runs work asked ran flies stamp gave names =
+    let mine : Run = run_of l.ticket l.kind l.stamp runs in
+    let same : work.run ≡ mine = own_case l.ticket.session work.run mine (work.run.session == l.ticket.session) (sym (ap (own_run l.ticket.session) work.out_is) ∙ flies) in
+    let session : s ≡ l.ticket.session = sym work.session_is ∙ ap (λ (r : Run). r.session) same in
+    let kind : l.kind ≡ bound_kind = ap (λ (r : Run). r.kind) (sym same) ∙ work.kind_is in
+    let ask : work.ask ≡ ask_of l.ticket = some_same work.ask (ask_of l.ticket) (sym work.asked ∙ ap (λ n. ask_at n st.asks) session ∙ asked.asked) in
     record {
-      one = one;
-      run_is = rest.0;
-      kept = rest.1;
-      nobody = rest.2;
-      here = rest.3;
-      lacks = rest.4;
-      quiet = rest.5;
-      absent = rest.6;
-      inputs_are = fits.is_open.inputs ∙ ap (λ s. inputs_at o s t.at) same ∙ ap (λ n. after_edits image n (edits_of h)) rest.3 ∙ sym (core_inputs_at chain (feature 11) o h inputs count stamp slots home room core);
-      within = rest.7;
-      ran = rest.8;
+      asked = asked;
+      runs = runs;
+      ran = ran;
+      flies = flies;
+      out_is = work.out_is ∙ ap (λ r. r ∷ []) same;
+      few = omega (arith, work.few, ap (λ (r : Run). r.runs) same);
+      kind_is = kind;
+      home_is = work.home_is;
+      needs = ap entries_needed (sym ask) ∙ work.needs;
+      owes = work.owes;
+      absent = λ current. ap (λ (r : Run). has_value r.name d.slots) (sym same) ∙ work.absent (ap (λ (r : Run). r.stamp) same ∙ current);
+      stamp_is = asked.is_open.stamp_is ∙ ap (λ k. stamp_at (opening_of b) st k l.ticket.at) (sym kind) ∙ sym stamp;
+      gave = gave;
+      names = names;
     }
 
-pub record Gives {V : Type 0} (chain : Chain) (feature : ℕ → Setting → List ℕ → V → Type 0) (o : Opening) (h : List Entry) (inputs : Setting) (count stamp : ℕ) (slots : List (Slot V)) (home : List ℕ) (room : ℕ) (t : KnownTicket V) : Type 0 where
-  pub core : IsCore chain (feature 11) o h inputs count stamp slots home room
-  pub legal : IsLegal chain o h
-  pub fits : FitsTicket feature o h t
+pub core_flown : {V : Type 0} (chain : Chain) (feature : ℕ → Setting → List ℕ → V → Type 0) (b : Basis) (h : List Entry) (d : Stock V) (l : KnownLanded V) (k : Known)
+    → known b h ≡ k → (core : IsCore chain feature b h d) → FitsLanded feature k.opening k.history l → IsFlown feature b core.st d (length h) l
+core_flown chain feature b h d l k view core fits =
+    let F : Known → Type 0 = λ v. FitsLanded feature v.opening v.history l in
+    let own = subst F (sym view) fits in
+    let same : own.st ≡ core.st = some_same own.st core.st (sym own.state ∙ core.kept.state) in
+    flown_case chain feature b core.st d (length h) l d.runner own.runs core.work (core_opened chain feature b h d l.ticket own.st core same own.is_open)
+    own.ran (ap (λ (s : State). own_run l.ticket.session s.out) (sym same) ∙ own.flies) (own.stamp ∙ ap (λ (s : State). stamp_at (opening_of b) s l.kind l.ticket.at) same) own.gave own.room
 
-abbrev pub lost_ticket : {V : Type 0} → KnownTicket V → ℕ → ℕ → KnownTicket V
-lost_ticket t session spare = record t { session = session; memory = true; spare = spare }
+pub record Gives {V : Type 0} (chain : Chain) (feature : ℕ → Setting → List ℕ → V → Type 0) (b : Basis) (k : Known) (entries : List Entry) (session : ℕ) (d : Stock V) (t : KnownTicket V) : Type 0 where
+  pub core : IsCore chain feature b entries d
+  pub legal : IsLegal chain (opening_of b) entries
+  pub others : KeepsOthers feature k (known b entries) session
+  pub fits : FitsTicket feature (opening_of b) entries t
 
-pub core_lost : {V : Type 0} (chain : Chain) (feature : ℕ → Setting → List ℕ → V → Type 0) (image : Image) (hardware : Hardware) (facts : List Fact) (h : List Entry) (inputs : Setting) (count stamp : ℕ) (slots : List (Slot V)) (home : List ℕ) (room : ℕ) (l : KnownLanded V) (spare : ℕ)
-    → IsCore chain (feature 11) (plain_opening image hardware facts) h inputs count stamp slots home room
-    → (fits : FitsLanded feature (plain_opening image hardware facts) h l)
+without_same : (session : ℕ) (run : Run) → run.session ≡ session → without_own session (run ∷ []) ≡ []
+without_same session run is = rw (same_number run.session session is) refl
+
+-- A finish of the bound, whatever its end.
+finishes : {V : Type 0} (chain : Chain) (feature : ℕ → Setting → List ℕ → V → Type 0) (b : Basis) (h : List Entry) (d : Stock V) (l : KnownLanded V) (k : Known) (entries : List Entry) (end : End) (slots : List (Slot V)) (had : List (ℕ × V)) (memory : Bool) (spare : ℕ)
+    → known b h ≡ k → (core : IsCore chain feature b h d) → IsFlown feature b core.st d (length h) l
+    → entries ≡ h ++ Finish l.ticket.session l.kind l.ticket.name l.stamp end ∷ []
+    → right_end end (l.stamp == stamp_at (opening_of b) core.st l.kind (count_of core.st)) ≡ true
+    → rows_after end l.ticket.name l.kind l.stamp core.st.rows ≡ map (row_of d.stamp) slots
+    → AreFeatures (feature bound_kind d.inputs) slots → length slots ≤ 32
+    → ask_after end l.kind (ask_of l.ticket) ≡ ask_of (record l.ticket { had = had; memory = memory; spare = spare })
+    → (memory || has_kind bound_kind (map (λ x. x.0) had)) ≡ true
+    → EachFeature (λ n v. feature n l.ticket.inputs l.ticket.name v) had
     → 1 ≤ spare
-    → Gives chain feature (plain_opening image hardware facts) (h ++ Finish l.ticket.session l.kind l.ticket.name l.stamp Memory ∷ []) inputs count stamp slots (l.runs ∷ []) room (lost_ticket l.ticket l.ticket.session spare)
-core_lost chain feature image hardware facts h inputs count stamp slots home room l spare core fits names =
-    let o : Opening = plain_opening image hardware facts in
-    let t : KnownTicket _ = l.ticket in
-    let flown = core_flown chain feature image hardware facts h inputs count stamp slots home room l core fits in
-    let run_is : run_of t l.kind l.stamp fits.runs ≡ plain_run t.name stamp fits.runs = flown.run_is in
-    let entry : Entry = Finish 1 bound_kind t.name stamp Memory in
-    let kept = grown chain o h entry _ _ [] ((fits.runs + 1) ∷ []) _ [] (Some (ask_of t)) (Some (ask_of (lost_ticket t 1 spare))) _ flown.kept
-    (step_memory image hardware facts (edits_of h) stamp fits.runs (map (row_of stamp) slots) (ask_of t)) (sym (append-nil (edits_of h))) tt in
-    let next = rebuilt chain (feature 11) o h entry inputs count stamp slots slots home ((fits.runs + 1) ∷ []) room room [] (Some (ask_of (lost_ticket t 1 spare))) core refl kept core.features core.few
-    (refl, flown.here) (omega (arith, flown.within)) (omega (arith, flown.ran), tt) tt in
-    let given : Gives chain feature o (h ++ entry ∷ []) inputs count stamp slots ((fits.runs + 1) ∷ []) room (lost_ticket t 1 spare) = record {
-      core = next;
-      legal = core_legal chain (feature 11) o _ inputs count stamp slots _ room next;
-      fits = record {
-        st = _;
-        state = kept.state;
-        is_open = record {
-          ask = refl;
-          inputs = flown.inputs_are ∙ core_inputs_at chain (feature 11) o _ inputs count stamp slots _ room next ∙ ap (λ n. after_edits image n (edits_of (h ++ entry ∷ []))) (sym flown.here);
-          features = fits.is_open.features;
-        };
-        rests = refl;
-        room = names;
-      };
+    → Gives chain feature b k entries l.ticket.session (restock d slots (l.runs ∷ []) None (d.owed - 1) d.room) (record l.ticket { had = had; memory = memory; spare = spare })
+finishes {V} chain feature b h d l k entries end slots had memory spare view core flown entries_are right rows features few ask_is settled has names =
+    let o : Opening = opening_of b in
+    let t : KnownTicket V = l.ticket in
+    let session : ℕ = t.session in
+    let run : Run = run_of t l.kind l.stamp flown.runs in
+    let left : KnownTicket V = record t { had = had; memory = memory; spare = spare } in
+    let ask : Ask = ask_after end l.kind (ask_of t) in
+    let new : State = after_finish core.st (ask_of t) run session l.kind t.name l.stamp end in
+    let asked = flown.asked in
+    let stepped = step_finish o core.st (ask_of t) run session end asked.is_open.ask flown.flies right in
+    let leaves : LeavesOthers session core.st new = record {
+      asks = λ s other. asked_other s session (Some ask) core.st.asks other;
+      runs = λ s other. in_other s session core.st.out other;
+      more = [];
+      edits = sym (append-nil core.st.edits);
     } in
-    let S : ℕ → Type 0 = λ s. Gives chain feature o (h ++ Finish s bound_kind t.name stamp Memory ∷ []) inputs count stamp slots ((fits.runs + 1) ∷ []) room (lost_ticket t s spare) in
-    let K : ℕ → Type 0 = λ k. Gives chain feature o (h ++ Finish t.session k t.name stamp Memory ∷ []) inputs count stamp slots ((fits.runs + 1) ∷ []) room (lost_ticket t t.session spare) in
-    let T : ℕ → Type 0 = λ n. Gives chain feature o (h ++ Finish t.session l.kind t.name n Memory ∷ []) inputs count stamp slots ((fits.runs + 1) ∷ []) room (lost_ticket t t.session spare) in
-    let R : ℕ → Type 0 = λ n. Gives chain feature o (h ++ Finish t.session l.kind t.name l.stamp Memory ∷ []) inputs count stamp slots (n ∷ []) room (lost_ticket t t.session spare) in
-    subst R (sym fits.ran) (subst T (ap (λ (r : Run). r.stamp) (sym run_is)) (subst K (ap (λ (r : Run). r.kind) (sym run_is)) (subst S (sym flown.one) given)))
+    let d' : Stock V = restock d slots (l.runs ∷ []) None (d.owed - 1) d.room in
+    let there = asked_same session (Some ask) core.st.asks asked.place in
+    let needs = needs_with session core.st.asks (Some ask) asked.place in
+    let mine : ask_needs (ask_at session core.st.asks) ≡ 3 = ap ask_needs asked.asked ∙ flown.needs in
+    let one : entries_needed ask ≡ 1 = ap entries_needed ask_is ∙ ap (λ s. if s then 1 else 3) settled in
+    let out_is = ap (without_own session) flown.out_is ∙ without_same session run refl in
+    let home : IsAtHome new d' (length h + 1) = record {
+      out_is = out_is;
+      runs = l.runs;
+      home_is = refl;
+      few = omega (arith, flown.ran, flown.few);
+      owes = omega (arith, needs, mine, one, flown.owes);
+    } in
+    let at_home : new.home ≡ (bound_kind, l.runs ∷ []) ∷ [] =
+    ap (λ kind. with_home kind ((flown.runs + 1) ∷ home_of kind core.st.home) core.st.home) flown.kind_is
+    ∙ ap (λ hs. with_home bound_kind ((flown.runs + 1) ∷ home_of bound_kind hs) hs) (core.home ∙ ap (λ x. (bound_kind, x) ∷ []) flown.home_is)
+    ∙ ap (λ n. (bound_kind, n ∷ []) ∷ []) (sym flown.ran) in
+    let owed : 2 ≤ d.owed = omega (arith, flown.owes, mine, needs_at session core.st.asks) in
+    let within_count : ask.at ≤ d.count = omega (arith, ap (λ (a : Ask). a.at) ask_is, asked.within) in
+    let moves = moved chain feature b h d k entries (Finish session l.kind t.name l.stamp end) new slots (l.runs ∷ []) None (d.owed - 1) d.room core view entries_are
+    stepped tt refl refl leaves rows at_home (length-with_ask session (Some ask) core.st.asks ∙ core.places)
+    (pinned_with d.count session core.st.asks (Some ask) core.pinned within_count) features few home (omega (arith, core.within, owed)) in
+    record {
+      core = moves.core;
+      legal = moves.legal;
+      others = moves.others;
+      fits = record {
+        st = new;
+        state = moves.state;
+        is_open = record {
+          ask = asked_when (is_session o session) (ask_at session new.asks) (ask_of left) asked.known_ (there ∙ ap (λ a. Some a) ask_is);
+          inputs = asked.is_open.inputs;
+          stamp_is = asked.is_open.stamp_is;
+          features = has;
+        };
+        rests = ap (own_run session) out_is;
+        room = omega (arith, ap names_needed settled, names);
+      };
+    }
 
--- The store with a value more.
+-- What is known before anything is changed.
+pub record Away {V A : Type 0} (before : ℕ) (d : Stock V) (l : KnownLanded V) (works : List A) : Type 0 where
+  pub within : before + 1 ≤ d.room
+  pub owed : 1 ≤ d.owed
+  pub nobody : works ≡ []
+  pub kind_is : l.kind ≡ 11
+  pub quiet : l.ticket.memory ≡ false
+  pub lacks : has_kind bound_kind (map (λ x. x.0) l.ticket.had) ≡ false
+  pub rows : length d.slots ≤ 32
+  pub names : 3 ≤ l.ticket.spare
 
-filled_feature : {V : Type 0} (P : List ℕ → V → Type 0) (name : List ℕ) (value : Arc V Global) (slot : Slot V) (slots : List (Slot V)) (same : Bool) → same_name slot.name name ≡ same
-    → P name value.value → AreFeatures P (slot ∷ slots) → AreFeatures P (filled name value slots)
-    → AreFeatures P (if same then record slot { value = Some value } ∷ slots else slot ∷ filled name value slots)
-filled_feature P name value slot slots true is this all rest =
-    let Q : List ℕ → Type 0 = λ n. P n value.value in (subst Q (sym (same_text slot.name name (sym is))) this, all.1)
-filled_feature P name value slot slots false is this all rest = (all.0, rest)
+map_none : {A : Type 0} (f : A → ℕ) (xs : List A) → map f xs ≡ [] → xs ≡ []
+map_none f [] is = refl
+map_none f (x ∷ xs) is = cc
 
-filled_features : {V : Type 0} (P : List ℕ → V → Type 0) (name : List ℕ) (value : Arc V Global) (slots : List (Slot V)) → P name value.value → AreFeatures P slots → AreFeatures P (filled name value slots)
-filled_features P name value [] this all = tt
-filled_features P name value (slot ∷ slots) this all =
-    filled_feature P name value slot slots (same_name slot.name name) refl this all (filled_features P name value slots this all.1)
+abbrev needed_if : Bool → ℕ
+needed_if settled = if settled then 1 else 3
 
-features-snoc : {V : Type 0} (P : List ℕ → V → Type 0) (slots : List (Slot V)) (slot : Slot V) → AreFeatures P slots → IfSome (value_of slot.value) (P slot.name) → AreFeatures P (slots ++ slot ∷ [])
-features-snoc P [] slot all this = (this, tt)
-features-snoc P (s ∷ slots) slot all this = (all.0, features-snoc P slots slot all.1 this)
+three_back : (memory has : Bool) → needed_if (memory || has) ≡ 3 → (memory ≡ false) × (has ≡ false)
+three_back true has is = absurd (omega (arith, is))
+three_back false true is = absurd (omega (arith, is))
+three_back false false is = (refl, refl)
 
-room_features : {V : Type 0} (P : List ℕ → V → Type 0) (slots : List (Slot V)) (full : Bool) → AreFeatures P slots → AreFeatures P (if full then drop 1 slots else slots)
-room_features P [] true all = tt
-room_features P (slot ∷ slots) true all = all.1
-room_features P slots false all = all
+pub away_all : {V A : Type 0} (chain : Chain) (feature : ℕ → Setting → List ℕ → V → Type 0) (b : Basis) (h : List Entry) (d : Stock V) (l : KnownLanded V) (k : Known) (runs_of : A → ℕ) (works : List A)
+    → known b h ≡ k → IsCore chain feature b h d → FitsLanded feature k.opening k.history l → d.home ≡ map runs_of works
+    → Away (length h) d l works
+away_all chain feature b h d l k runs_of works view core fits home =
+    let flown = core_flown chain feature b h d l k view core fits in
+    let both = three_back l.ticket.memory (has_kind bound_kind (ask_of l.ticket).kinds) flown.needs in
+    let mine : ask_needs (ask_at l.ticket.session core.st.asks) ≡ 3 = ap ask_needs flown.asked.asked ∙ flown.needs in
+    let owed : 2 ≤ d.owed = omega (arith, flown.owes, mine, needs_at l.ticket.session core.st.asks) in
+    record {
+      within = omega (arith, core.within, owed);
+      owed = omega (arith, owed);
+      nobody = map_none runs_of works (sym home ∙ flown.home_is);
+      kind_is = flown.kind_is;
+      quiet = both.0;
+      lacks = both.1;
+      rows = core.few;
+      names = flown.names;
+    }
 
-value_features : {V : Type 0} (P : List ℕ → V → Type 0) (name : List ℕ) (value : Arc V Global) (slots : List (Slot V)) (there : Bool) → P name value.value → AreFeatures P slots
-    → AreFeatures P (if there then filled name value slots else with_room slots ++ record { name = name; value = Some value } ∷ [])
-value_features P name value slots true this all = filled_features P name value slots this all
-value_features P name value slots false this all =
-    features-snoc P (with_room slots) (record { name = name; value = Some value }) (room_features P slots (nat_le 32 (length slots)) all) this
+pub current_all : {V : Type 0} (chain : Chain) (feature : ℕ → Setting → List ℕ → V → Type 0) (b : Basis) (h : List Entry) (d : Stock V) (l : KnownLanded V) (k : Known) (st : State)
+    → known b h ≡ k → IsCore chain feature b h d → FitsLanded feature k.opening k.history l → state_after k.opening k.history ≡ Some st
+    → (l.stamp == d.stamp) ≡ is_current k.opening st l.kind l.stamp
+current_all chain feature b h d l k st view core fits state =
+    let flown = core_flown chain feature b h d l k view core fits in
+    let S : Known → Type 0 = λ v. state_after v.opening v.history ≡ Some st in
+    let I : Known → Type 0 = λ v. (l.stamp == d.stamp) ≡ is_current v.opening st l.kind l.stamp in
+    let same : core.st ≡ st = some_same core.st st (sym core.kept.state ∙ subst S (sym view) state) in
+    subst I view (ap (λ n. l.stamp == n) (stamp_here chain feature b h d core ∙ ap (λ n. stamp_at (opening_of b) core.st n (count_of core.st)) (sym flown.kind_is)) ∙ ap (λ x. is_current (opening_of b) x l.kind l.stamp) same)
 
-filled_length : {V : Type 0} (name : List ℕ) (value : Arc V Global) (slot : Slot V) (slots : List (Slot V)) (same : Bool) → length (filled name value slots) ≡ length slots
-    → length (if same then record slot { value = Some value } ∷ slots else slot ∷ filled name value slots) ≡ length (slot ∷ slots)
-filled_length name value slot slots true rest = refl
-filled_length name value slot slots false rest = ap (λ n. suc n) rest
+-- The three ends, with what the code made.
 
-length-filled : {V : Type 0} (name : List ℕ) (value : Arc V Global) (slots : List (Slot V)) → length (filled name value slots) ≡ length slots
-length-filled name value [] = refl
-length-filled name value (slot ∷ slots) = filled_length name value slot slots (same_name slot.name name) (length-filled name value slots)
+pub lost_all : {V A : Type 0} (chain : Chain) (feature : ℕ → Setting → List ℕ → V → Type 0) (b : Basis) (h : List Entry) (d : Stock V) (t left : KnownTicket V) (k : Known) (entries : List Entry) (runs_of : A → ℕ) (works back : List A) (work : A) (kind own : ℕ)
+    → known b h ≡ k → IsCore chain feature b h d → FitsLanded feature k.opening k.history (landed_of t kind own (runs_of work) None)
+    → d.home ≡ map runs_of works
+    → back ≡ works ++ work ∷ []
+    → t ≡ record left { spare = left.spare + 1 }
+    → entries ≡ h ++ Finish t.session kind t.name own MemoryEnd ∷ []
+    → Gives chain feature b k entries t.session (restock d d.slots (map runs_of back) None (d.owed - 1) d.room) (record left { memory = true })
+lost_all {V} {A} chain feature b h d t left k entries runs_of works back work kind own view core fits home back_is left_is entries_are =
+    let l : KnownLanded V = landed_of t kind own (runs_of work) None in
+    let flown = core_flown chain feature b h d l k view core fits in
+    let away = away_all chain feature b h d l k runs_of works view core fits home in
+    let base = finishes chain feature b h d l k entries MemoryEnd d.slots t.had true left.spare view core flown entries_are refl core.rows core.features core.few refl refl flown.asked.is_open.features
+    (omega (arith, flown.names, ap (λ (x : KnownTicket V). x.spare) left_is)) in
+    let T : KnownTicket V → Type 0 = λ x. Gives chain feature b k entries t.session (restock d d.slots (runs_of work ∷ []) None (d.owed - 1) d.room) x in
+    let H : List ℕ → Type 0 = λ ws. Gives chain feature b k entries t.session (restock d d.slots ws None (d.owed - 1) d.room) (record left { memory = true }) in
+    subst H (sym (ap (map runs_of) back_is ∙ ap (λ (ws : List A). map runs_of (ws ++ work ∷ [])) away.nobody)) (subst T (ap (λ (x : KnownTicket V). record x { memory = true; spare = left.spare }) left_is) base)
 
-room_length : {V : Type 0} (slots : List (Slot V)) (full : Bool) → nat_le 32 (length slots) ≡ full → length slots ≤ 32 → length (if full then drop 1 slots else slots) + 1 ≤ 32
-room_length [] true is few = omega arith
-room_length (slot ∷ slots) true is few = omega (arith, few)
-room_length slots false is few = grind (arith, leb_tells 32 (length slots))
+held_none : {V : Type 0} (x : Option (Arc V Global)) → has_kind bound_kind (map (λ (h : ℕ × V). h.0) (held x)) ≡ false → held x ≡ []
+held_none None is = refl
+held_none (Some a) is = cc
 
-value_length : {V : Type 0} (name : List ℕ) (value : Arc V Global) (slots : List (Slot V)) (there : Bool) → length slots ≤ 32
-    → length (if there then filled name value slots else with_room slots ++ record { name = name; value = Some value } ∷ []) ≤ 32
-value_length name value slots true few = omega (arith, few, length-filled name value slots)
-value_length name value slots false few =
-    omega (arith, room_length slots (nat_le 32 (length slots)) refl few, length-append (with_room slots) (record { name = name; value = Some value } ∷ []))
+-- A ticket without a value, by what it holds.
+had_none : {V : Type 0} (had : Option (Arc V Global)) (t : KnownTicket V) → held had ≡ t.had → has_kind bound_kind (map (λ x. x.0) t.had) ≡ false → t.had ≡ []
+had_none {V} had t is lacks = sym is ∙ held_none had (ap (λ (hs : List (ℕ × V)). has_kind bound_kind (map (λ (x : ℕ × V). x.0) hs)) is ∙ lacks)
 
-abbrev pub kept_ticket : {V : Type 0} → KnownTicket V → ℕ → V → ℕ → KnownTicket V
-kept_ticket t session v spare = record t { session = session; had = (bound_kind, v) ∷ []; spare = spare }
+abbrev ask_with : {V : Type 0} → KnownTicket V → List ℕ → Ask
+ask_with t kinds = record { name = t.name; at = t.at; kinds = kinds; memory = t.memory }
+
+grown : {V : Type 0} (t : KnownTicket V) (v : V) (kind spare : ℕ) → t.had ≡ [] → kind ≡ bound_kind
+    → record (ask_of t) { kinds = (ask_of t).kinds ++ kind ∷ [] } ≡ ask_of (record t { had = (bound_kind, v) ∷ []; memory = t.memory; spare = spare })
+grown {V} t v kind spare none is =
+    ap (λ n. ask_with t ((ask_of t).kinds ++ n ∷ [])) is ∙ ap (λ (hs : List (ℕ × V)). ask_with t (map (λ (x : ℕ × V). x.0) hs ++ bound_kind ∷ [])) none
 
 settled_true : (b : Bool) → (b || true) ≡ true
 settled_true true = refl
 settled_true false = refl
 
-pub core_kept : {V : Type 0} (chain : Chain) (feature : ℕ → Setting → List ℕ → V → Type 0) (image : Image) (hardware : Hardware) (facts : List Fact) (h : List Entry) (inputs : Setting) (count stamp : ℕ) (slots : List (Slot V)) (home : List ℕ) (room : ℕ) (l : KnownLanded V) (spare : ℕ) (value : Arc V Global) (v : V)
-    → IsCore chain (feature 11) (plain_opening image hardware facts) h inputs count stamp slots home room
-    → (fits : FitsLanded feature (plain_opening image hardware facts) h l)
-    → l.ticket.had ≡ []
-    → feature l.kind l.ticket.inputs l.ticket.name value.value
+pub dropped_all : {V A : Type 0} (chain : Chain) (feature : ℕ → Setting → List ℕ → V → Type 0) (b : Basis) (h : List Entry) (d : Stock V) (t left : KnownTicket V) (k : Known) (entries : List Entry) (runs_of : A → ℕ) (works back : List A) (work : A) (kind own : ℕ) (v : V) (had : Option (Arc V Global))
+    → known b h ≡ k → IsCore chain feature b h d → FitsLanded feature k.opening k.history (landed_of t kind own (runs_of work) (Some v))
+    → ((st : State) → state_after k.opening k.history ≡ Some st → is_current k.opening st kind own ≡ false)
+    → d.home ≡ map runs_of works
+    → back ≡ works ++ work ∷ []
+    → t ≡ record left { spare = left.spare + 1 }
+    → held had ≡ left.had
+    → entries ≡ h ++ Finish t.session kind t.name own DroppedEnd ∷ []
+    → Gives chain feature b k entries t.session (restock d d.slots (map runs_of back) None (d.owed - 1) d.room) (record left { had = (bound_kind, v) ∷ [] })
+dropped_all {V} {A} chain feature b h d t left k entries runs_of works back work kind own v had view core fits past home back_is left_is had_is entries_are =
+    let l : KnownLanded V = landed_of t kind own (runs_of work) (Some v) in
+    let flown = core_flown chain feature b h d l k view core fits in
+    let away = away_all chain feature b h d l k runs_of works view core fits home in
+    let none : t.had ≡ [] = had_none had t (had_is ∙ sym (ap (λ (x : KnownTicket V). x.had) left_is)) away.lacks in
+    let P : Known → Type 0 = λ x. (st : State) → state_after x.opening x.history ≡ Some st → is_current x.opening st kind own ≡ false in
+    let old : is_current (opening_of b) core.st kind own ≡ false = subst P (sym view) past core.st core.kept.state in
+    let K : ℕ → Type 0 = λ n. feature n t.inputs t.name v in
+    let base = finishes chain feature b h d l k entries DroppedEnd d.slots ((bound_kind, v) ∷ []) t.memory left.spare view core flown entries_are (ap not old) core.rows core.features core.few
+    (grown t v kind left.spare none away.kind_is) (settled_true t.memory) (subst K away.kind_is flown.gave, tt)
+    (omega (arith, flown.names, ap (λ (x : KnownTicket V). x.spare) left_is)) in
+    let T : KnownTicket V → Type 0 = λ x. Gives chain feature b k entries t.session (restock d d.slots (runs_of work ∷ []) None (d.owed - 1) d.room) x in
+    let H : List ℕ → Type 0 = λ ws. Gives chain feature b k entries t.session (restock d d.slots ws None (d.owed - 1) d.room) (record left { had = (bound_kind, v) ∷ [] }) in
+    subst H (sym (ap (map runs_of) back_is ∙ ap (λ (ws : List A). map runs_of (ws ++ work ∷ [])) away.nobody)) (subst T (ap (λ (x : KnownTicket V). record x { had = (bound_kind, v) ∷ []; spare = left.spare }) left_is) base)
+
+pub kept_all : {V A : Type 0} (chain : Chain) (feature : ℕ → Setting → List ℕ → V → Type 0) (b : Basis) (h : List Entry) (d : Stock V) (t mid left : KnownTicket V) (k : Known) (entries : List Entry) (runs_of : A → ℕ) (works back : List A) (work : A) (kind own : ℕ) (v : V) (had : Option (Arc V Global)) (row : List ℕ) (value : Arc V Global) (filled : List (Slot V))
+    → IsStable (feature bound_kind)
+    → known b h ≡ k → IsCore chain feature b h d → FitsLanded feature k.opening k.history (landed_of t kind own (runs_of work) (Some value.value))
+    → ((st : State) → state_after k.opening k.history ≡ Some st → is_current k.opening st kind own ≡ true)
+    → d.home ≡ map runs_of works
+    → back ≡ works ++ work ∷ []
+    → t ≡ record mid { spare = mid.spare + 1 }
+    → mid ≡ record left { spare = left.spare + 1 }
+    → held had ≡ left.had
     → v ≡ value.value
-    → 1 ≤ spare
-    → Gives chain feature (plain_opening image hardware facts) (h ++ Finish l.ticket.session l.kind l.ticket.name l.stamp KeptEnd ∷ []) inputs count stamp (with_value l.ticket.name value slots) (l.runs ∷ []) room (kept_ticket l.ticket l.ticket.session v spare)
-core_kept chain feature image hardware facts h inputs count stamp slots home room l spare value v core fits none gave same names =
-    let o : Opening = plain_opening image hardware facts in
-    let t : KnownTicket _ = l.ticket in
-    let flown = core_flown chain feature image hardware facts h inputs count stamp slots home room l core fits in
-    let run_is : run_of t l.kind l.stamp fits.runs ≡ plain_run t.name stamp fits.runs = flown.run_is in
-    let kind_is : l.kind ≡ bound_kind = ap (λ (r : Run). r.kind) run_is in
-    let entry : Entry = Finish 1 bound_kind t.name stamp KeptEnd in
-    let new : Ask = ask_of (kept_ticket t 1 v spare) in
-    let grew = ap (λ (hs : List (ℕ × _)). map (λ x. x.0) hs ++ bound_kind ∷ []) none in
-    let step_is = step_kept image hardware facts (edits_of h) stamp fits.runs slots (ask_of t) value core.stamp_is flown.absent
-    ∙ ap (λ ks. Some (plain_state (edits_of h) (map (row_of stamp) (with_value t.name value slots)) ((fits.runs + 1) ∷ []) [] (Some (record (ask_of t) { kinds = ks })))) grew in
-    let kept = grown chain o h entry _ _ [] ((fits.runs + 1) ∷ []) _ [] (Some (ask_of t)) (Some new) _ flown.kept step_is (sym (append-nil (edits_of h))) tt in
-    let K : ℕ → Type 0 = λ k. feature k t.inputs t.name value.value in
-    let I : Setting → Type 0 = λ i. feature bound_kind i t.name value.value in
-    let G : _ → Type 0 = λ x. feature bound_kind t.inputs t.name x in
-    let mine : feature bound_kind t.inputs t.name value.value = subst K kind_is gave in
-    let needs : entries_needed (Some new) ((fits.runs + 1) ∷ []) ≡ 1 = ap (λ b. if b then 1 else 3) (settled_true t.memory) in
-    let next = rebuilt chain (feature 11) o h entry inputs count stamp slots (with_value t.name value slots) home ((fits.runs + 1) ∷ []) room room [] (Some new) core refl kept
-    (value_features (feature 11 inputs) t.name value slots (has_slot t.name slots) (subst I flown.inputs_are mine) core.features) (value_length t.name value slots (has_slot t.name slots) core.few)
-    (refl, flown.here) (omega (arith, flown.within, needs)) (omega (arith, flown.ran), tt) tt in
-    let settled = settled_true t.memory in
-    let given : Gives chain feature o (h ++ entry ∷ []) inputs count stamp (with_value t.name value slots) ((fits.runs + 1) ∷ []) room (kept_ticket t 1 v spare) = record {
-      core = next;
-      legal = core_legal chain (feature 11) o _ inputs count stamp (with_value t.name value slots) _ room next;
-      fits = record {
-        st = _;
-        state = kept.state;
-        is_open = record {
-          ask = refl;
-          inputs = flown.inputs_are ∙ core_inputs_at chain (feature 11) o _ inputs count stamp (with_value t.name value slots) _ room next ∙ ap (λ n. after_edits image n (edits_of (h ++ entry ∷ []))) (sym flown.here);
-          features = (subst G (sym same) mine, tt);
-        };
-        rests = refl;
-        room = omega (arith, names, ap names_needed settled);
-      };
-    } in
-    let S : ℕ → Type 0 = λ s. Gives chain feature o (h ++ Finish s bound_kind t.name stamp KeptEnd ∷ []) inputs count stamp (with_value t.name value slots) ((fits.runs + 1) ∷ []) room (kept_ticket t s v spare) in
-    let D : ℕ → Type 0 = λ k. Gives chain feature o (h ++ Finish t.session k t.name stamp KeptEnd ∷ []) inputs count stamp (with_value t.name value slots) ((fits.runs + 1) ∷ []) room (kept_ticket t t.session v spare) in
-    let T : ℕ → Type 0 = λ n. Gives chain feature o (h ++ Finish t.session l.kind t.name n KeptEnd ∷ []) inputs count stamp (with_value t.name value slots) ((fits.runs + 1) ∷ []) room (kept_ticket t t.session v spare) in
-    let R : ℕ → Type 0 = λ n. Gives chain feature o (h ++ Finish t.session l.kind t.name l.stamp KeptEnd ∷ []) inputs count stamp (with_value t.name value slots) (n ∷ []) room (kept_ticket t t.session v spare) in
-    subst R (sym fits.ran) (subst T (ap (λ (r : Run). r.stamp) (sym run_is)) (subst D (sym kind_is) (subst S (sym flown.one) given)))
+    → row ≡ t.name
+    → filled ≡ with_value row value d.slots
+    → entries ≡ h ++ Finish t.session kind t.name own KeptEnd ∷ []
+    → Gives chain feature b k entries t.session (restock d filled (map runs_of back) None (d.owed - 1) d.room) (record left { had = (bound_kind, v) ∷ [] })
+kept_all {V} {A} chain feature b h d t mid left k entries runs_of works back work kind own v had row value filled stable view core fits current home back_is mid_is left_is had_is same row_is filled_is entries_are =
+    let o : Opening = opening_of b in
+    let l : KnownLanded V = landed_of t kind own (runs_of work) (Some value.value) in
+    let flown = core_flown chain feature b h d l k view core fits in
+    let away = away_all chain feature b h d l k runs_of works view core fits home in
+    let t_is : t ≡ record left { spare = left.spare + 1 + 1 } = mid_is ∙ ap (λ (x : KnownTicket V). record x { spare = x.spare + 1 }) left_is in
+    let none : t.had ≡ [] = had_none had t (had_is ∙ sym (ap (λ (x : KnownTicket V). x.had) t_is)) away.lacks in
+    let P : Known → Type 0 = λ x. (st : State) → state_after x.opening x.history ≡ Some st → is_current x.opening st kind own ≡ true in
+    let now : is_current o core.st kind own ≡ true = subst P (sym view) current core.st core.kept.state in
+    let stamp : own ≡ d.stamp = eqb-true own _ now ∙ ap (λ n. stamp_at o core.st n (count_of core.st)) away.kind_is ∙ sym (stamp_here chain feature b h d core) in
+    let absent : has_value t.name d.slots ≡ false = flown.absent stamp in
+    let slots : List (Slot V) = with_value t.name value d.slots in
+    let rows = ap (λ n. stored_at t.name n own core.st.rows) away.kind_is ∙ ap (λ n. stored_at t.name bound_kind n core.st.rows) stamp ∙ ap (stored_at t.name bound_kind d.stamp) core.rows ∙ stored_rows t.name d.stamp value d.slots absent in
+    let K : ℕ → Type 0 = λ n. feature n t.inputs t.name value.value in
+    let G : V → Type 0 = λ x. feature bound_kind t.inputs t.name x in
+    let mine : feature bound_kind t.inputs t.name value.value = subst K away.kind_is flown.gave in
+    let features = value_features (feature bound_kind d.inputs) t.name value d.slots (has_slot t.name d.slots) (now_here chain feature b h d t t.name value.value stable core flown.asked (flown.stamp_is ∙ stamp) mine) core.features in
+    let base = finishes chain feature b h d l k entries KeptEnd slots ((bound_kind, v) ∷ []) t.memory left.spare view core flown entries_are now rows features (value_length t.name value d.slots (has_slot t.name d.slots) core.few)
+    (grown t v kind left.spare none away.kind_is) (settled_true t.memory) (subst G (sym same) mine, tt)
+    (omega (arith, flown.names, ap (λ (x : KnownTicket V). x.spare) t_is)) in
+    let T : KnownTicket V → Type 0 = λ x. Gives chain feature b k entries t.session (restock d slots (runs_of work ∷ []) None (d.owed - 1) d.room) x in
+    let S : List (Slot V) → Type 0 = λ ss. Gives chain feature b k entries t.session (restock d ss (runs_of work ∷ []) None (d.owed - 1) d.room) (record left { had = (bound_kind, v) ∷ [] }) in
+    let H : List ℕ → Type 0 = λ ws. Gives chain feature b k entries t.session (restock d filled ws None (d.owed - 1) d.room) (record left { had = (bound_kind, v) ∷ [] }) in
+    subst H (sym (ap (map runs_of) back_is ∙ ap (λ (ws : List A). map runs_of (ws ++ work ∷ [])) away.nobody))
+    (subst S (sym (filled_is ∙ ap (λ n. with_value n value d.slots) row_is)) (subst T (ap (λ (x : KnownTicket V). record x { had = (bound_kind, v) ∷ []; spare = left.spare }) t_is) base))
+
+pub finish_entries : {V : Type 0} (entries h : List Entry) (session kind kind' stamp : ℕ) (name : List ℕ) (end : End) (t : KnownTicket V)
+    → entries ≡ h ++ Finish session kind name stamp end ∷ [] → session ≡ t.session → kind ≡ kind' → name ≡ t.name
+    → entries ≡ h ++ Finish t.session kind' t.name stamp end ∷ []
+finish_entries entries h session kind kind' stamp name end t is session_is kind_is name_is =
+    is
+    ∙ ap (λ s. h ++ Finish s kind name stamp end ∷ []) session_is
+    ∙ ap (λ n. h ++ Finish t.session kind n stamp end ∷ []) name_is
+    ∙ ap (λ k. h ++ Finish t.session k t.name stamp end ∷ []) kind_is
+
+pub each_one : {A : Type 0} (P : A → Type 0) (xs : List A) (x : A) → xs ≡ [] → P x → Each P (xs ++ x ∷ [])
+each_one {A} P xs x is p = let Q : List A → Type 0 = λ l. Each P (l ++ x ∷ []) in subst Q (sym is) (p, tt)

@@ -1,5 +1,5 @@
--- The opening entries, their edits, and the core's invariant after them.
-use Rattle.std.proofs.Common.{◌≡◌, ℕ, suc, ◌+◌, ◌≤◌, List, [], ◌∷◌, ◌++◌, length, take, drop, map, Option, None, Some, refl, sym, ap, subst, ◌∙◌, append_assoc, arith, if◌then◌else◌}
+-- The opening entries, their edits, and the core's invariant after them; and what is left at the end.
+use Rattle.std.proofs.Common.{◌≡◌, ℕ, zero, suc, ◌+◌, ◌≤◌, Bool, true, false, ◌&&◌, List, [], ◌∷◌, ◌++◌, length, take, drop, map, replicate, Option, None, Some, is_none, nat_le, refl, sym, ap, subst, ◌∙◌, append_assoc, arith, le-leb, if◌then◌else◌}
 use Rattle.std.proofs.lemmas.List.{append-nil}
 use Rattle.std.proofs.Math.Seq.{take-length, drop-length}
 use Rattle.wc_model.specs.declared.elf_image.Image.{Image}
@@ -9,17 +9,17 @@ use Rattle.wc_model.specs.declared.flow_facts.Fact.{Fact}
 use Rattle.wc_model.specs.declared.flow_facts.Fact.TheVariants.{Loop, Multibranch, Multicall, Noreturn, Checksum, Limit}
 use Rattle.wc_model.specs.declared.inputs.Edit.{Edit}
 use Rattle.wc_model.specs.declared.inputs.Edit.TheVariants.{Add, Hardware as Timing}
-use Rattle.wc_model.specs.declared.machine.Hardware.{Hardware}
 use Rattle.wc_model.specs.Closures.{touches_any, last_touch}
 use Rattle.wc_model.specs.Edits.{Setting, bare, edited, all_edited, edits_of}
-use Rattle.wc_model.specs.History.{Opening, State, Run, Ask, Chain, EachRight, IsLegal, opening_entries, fact_entries, state_after, opened, replay, start}
-use Rattle.wc_model.proofs.Replays.{length-opening_entries}
+use Rattle.wc_model.specs.History.{Opening, State, Ask, Chain, EachRight, IsLegal, opening_entries, fact_entries, state_after, opened, replay, start, is_free, is_session, ask_at, home_of, bound_kind}
+use Rattle.wc_model.proofs.Replays.{Kept, length-opening_entries}
 use Rattle.wc_core.specs.declared.store.Slot.{Slot}
-use Rattle.wc_core.specs.Answers.{LeavesFree, RunsNothing}
+use Rattle.wc_core.specs.Answers.{LeavesFree, LeavesAllFree, RunsNothing}
 use Rattle.wc_core.specs.Features.{Each}
-use Rattle.wc_core.specs.Holds.{all_parts, plain_opening, plain_state, numbered_from, stamp_from, is_plain_fact, IsCore, IsTurnOf}
+use Rattle.wc_core.specs.Holds.{Basis, Stock, opening_of, all_parts, numbered_from, stamp_from, is_plain_fact, asks_need, WorkIs, IsCore}
 use Rattle.wc_core.specs.Views.{Known}
-use Rattle.wc_core.proofs.Cores.{IsOne, core_free, core_legal, some_same}
+use Rattle.wc_core.proofs.Cores.{known, core_legal}
+use Rattle.wc_core.proofs.OpenAsks.{PinnedBy, some_same, and_right, session_within}
 
 edits_of-facts : (count : ℕ) (facts : List Fact) → edits_of (fact_entries count facts) ≡ map Add facts
 edits_of-facts count [] = refl
@@ -56,41 +56,94 @@ length-map : (facts : List Fact) → length (map Add facts) ≡ length facts
 length-map [] = refl
 length-map (f ∷ fs) = ap (λ n. suc n) (length-map fs)
 
-pub record Opens {V : Type 0} (chain : Chain) (feature : ℕ → Setting → List ℕ → V → Type 0) (o : Opening) (h : List Entry) (inputs : Setting) (count stamp : ℕ) (slots : List (Slot V)) (home : List ℕ) (room : ℕ) : Type 0 where
-  pub core : IsCore chain (feature 11) o h inputs count stamp slots home room
-  pub legal : IsLegal chain o h
-  pub free : LeavesFree o h 1
+-- The asks at first.
 
-pub opens : {V : Type 0} (chain : Chain) (feature : ℕ → Setting → List ℕ → V → Type 0) (image : Image) (hardware : Hardware) (facts : List Fact) (first room : ℕ)
-    → first ≡ (if touches_any all_parts (bare image) (Timing hardware) then 1 else 0)
-    → length facts + 1 ≤ room
-    → Opens {V = V} chain feature (plain_opening image hardware facts) (opening_entries (plain_opening image hardware facts)) (record { image = image; facts = numbered_from 2 facts; hardware = hardware }) (length facts + 1) (stamp_from first 1 facts) [] (0 ∷ []) room
-opens {V} chain feature image hardware facts first room first_is within =
-    let o : Opening = plain_opening image hardware facts in
+abbrev no_asks : ℕ → List (Option Ask)
+no_asks n = replicate n None
+
+length-none : (n : ℕ) → length (no_asks n) ≡ n
+length-none zero = refl
+length-none (suc n) = ap (λ m. suc m) (length-none n)
+
+pinned_none : (count n : ℕ) → Each (PinnedBy count) (replicate n None)
+pinned_none count zero = tt
+pinned_none count (suc n) = (tt, pinned_none count n)
+
+needs_none : (n : ℕ) → asks_need (replicate n None) ≡ 0
+needs_none zero = refl
+needs_none (suc n) = omega (arith, needs_none n)
+
+at_none : (session n : ℕ) → ask_at session (replicate n None) ≡ None
+at_none session zero = refl
+at_none zero (suc n) = refl
+at_none (suc session) (suc n) = at_none session n
+
+and_both : (a b : Bool) → a ≡ true → b ≡ true → (a && b) ≡ true
+and_both true b p q = q
+and_both false b p q = p
+
+pub record Opens {V : Type 0} (chain : Chain) (feature : ℕ → Setting → List ℕ → V → Type 0) (b : Basis) (h : List Entry) (d : Stock V) : Type 0 where
+  pub core : IsCore chain feature b h d
+  pub legal : IsLegal chain (opening_of b) h
+  pub free : LeavesAllFree (opening_of b) h
+
+abbrev pub first_stock : {V : Type 0} → Basis → ℕ → ℕ → Stock V
+first_stock b first room =
+    record {
+      inputs = record { image = b.image; facts = numbered_from 2 b.facts; hardware = b.hardware };
+      count = length b.facts + 1;
+      stamp = stamp_from first 1 b.facts;
+      slots = [];
+      home = 0 ∷ [];
+      runner = None;
+      owed = 0;
+      room = room;
+    }
+
+pub opens : {V : Type 0} (chain : Chain) (feature : ℕ → Setting → List ℕ → V → Type 0) (b : Basis) (first room : ℕ)
+    → first ≡ (if touches_any all_parts (bare b.image) (Timing b.hardware) then 1 else 0)
+    → length b.facts + 1 ≤ room
+    → Opens {V = V} chain feature b (opening_entries (opening_of b)) (first_stock b first room)
+opens {V} chain feature b first room first_is within =
+    let o : Opening = opening_of b in
     let h : List Entry = opening_entries o in
-    let long : length h ≡ length facts + 1 = length-opening_entries o in
-    let edits : edits_of h ≡ Timing hardware ∷ map Add facts = ap (λ l. Timing hardware ∷ l) (edits_of-facts 2 facts) in
+    let st : State = start o in
+    let long : length h ≡ length b.facts + 1 = length-opening_entries o in
+    let edits : edits_of h ≡ Timing b.hardware ∷ map Add b.facts = ap (λ l. Timing b.hardware ∷ l) (edits_of-facts 2 b.facts) in
     let none : drop (opened o) h ≡ [] = ap (λ n. drop n h) (sym long) ∙ drop-length h in
-    let state : state_after o h ≡ Some (plain_state (edits_of h) [] (0 ∷ []) [] None) =
-    ap (λ l. replay o (Some (start o)) l) none ∙ ap (λ es. Some (plain_state es [] (0 ∷ []) [] None)) (sym edits) in
-    let core : IsCore {V = V} chain (feature 11) o h (record { image = image; facts = numbered_from 2 facts; hardware = hardware }) (length facts + 1) (stamp_from first 1 facts) [] (0 ∷ []) room = record {
-      ask = None;
-      out = [];
+    let kept : Kept chain o h st = record {
       begins = ap (λ n. take n h) (sym long) ∙ take-length h;
-      state = state;
-      right = (tt, right_facts chain image _ 2 facts);
-      inputs_are = sym (ap (λ es. all_edited 0 (bare image) es) edits ∙ all_added 1 (record { image = image; facts = []; hardware = hardware }) facts);
-      count_is = sym (ap length edits ∙ ap (λ n. suc n) (length-map facts) ∙ omega arith);
-      stamp_is = ap (λ n. stamp_from n 1 facts) first_is
-          ∙ sym (ap (λ es. last_touch all_parts 0 0 (bare image) es) edits ∙ last_added (if touches_any all_parts (bare image) (Timing hardware) then 1 else 0) 1 (record { image = image; facts = []; hardware = hardware }) facts);
+      state = ap (λ l. replay o (Some (start o)) l) none;
+      right = (tt, right_facts chain b.image _ 2 b.facts);
+      edits = sym edits;
+    } in
+    let core : IsCore {V = V} chain feature b h (first_stock b first room) = record {
+      st = st;
+      kept = kept;
+      rows = refl;
+      home = refl;
+      places = length-none (b.sessions + 1);
+      pinned = pinned_none (length b.facts + 1) (b.sessions + 1);
+      inputs_are = sym (all_added 1 (record { image = b.image; facts = []; hardware = b.hardware }) b.facts);
+      count_is = sym (ap (λ n. suc n) (length-map b.facts) ∙ omega arith);
+      stamp_is = ap (λ n. stamp_from n 1 b.facts) first_is
+          ∙ sym (last_added (if touches_any all_parts (bare b.image) (Timing b.hardware) then 1 else 0) 1 (record { image = b.image; facts = []; hardware = b.hardware }) b.facts);
       features = tt;
       few = omega arith;
-      turn = refl;
+      work = record { out_is = refl; runs = 0; home_is = refl; few = omega arith; owes = sym (needs_none (b.sessions + 1)) };
       within = omega (arith, long, within);
       counted = omega (arith, long);
-      ran = ((omega arith, tt), tt);
     } in
-    record { core = core; legal = core_legal chain (feature 11) o h _ _ _ [] (0 ∷ []) room core; free = record { st = _; state = state; free = refl } }
+    record {
+      core = core;
+      legal = core_legal chain feature b h (first_stock b first room) core;
+      free = λ session least most. record {
+        st = st;
+        state = kept.state;
+        free = and_both (is_session o session) (is_none (ask_at session st.asks)) (and_both (nat_le 1 session) (nat_le session b.sessions) (le-leb 1 session least) (le-leb session b.sessions most))
+            (ap (λ (a : Option Ask). is_none a) (at_none session (b.sessions + 1)));
+      };
+    }
 
 first_is : (a b : ℕ) (xs : List ℕ) → (a ∷ xs) ≡ (b ∷ xs) → a ≡ b
 first_is a b xs is = cc
@@ -104,26 +157,25 @@ pub all_known : {A : Type 0} (kind_of : A → ℕ) (P : A → Type 0) (works : L
 all_known kind_of P [] each = tt
 all_known kind_of P (w ∷ ws) each = (each.0.1, all_known kind_of P ws each.1)
 
-pub opens_all : {V : Type 0} (chain : Chain) (feature : ℕ → Setting → List ℕ → V → Type 0) (image : Image) (hardware : Hardware) (facts : List Fact) (first room : ℕ) (h : List Entry) (inputs : Setting) (count stamp : ℕ) (slots : List (Slot V)) (home : List ℕ)
-    → first ≡ (if touches_any all_parts (bare image) (Timing hardware) then 1 else 0)
-    → length facts + 1 ≤ room
-    → h ≡ EditEntry 0 1 (Timing hardware) ∷ fact_entries 2 facts
-    → inputs ≡ record { image = image; facts = numbered_from 2 facts; hardware = hardware }
-    → count ≡ length facts + 1
-    → stamp ≡ stamp_from first 1 facts
+pub opens_all : {V : Type 0} (chain : Chain) (feature : ℕ → Setting → List ℕ → V → Type 0) (b : Basis) (first room : ℕ) (h : List Entry) (inputs : Setting) (count stamp : ℕ) (slots : List (Slot V)) (home : List ℕ)
+    → first ≡ (if touches_any all_parts (bare b.image) (Timing b.hardware) then 1 else 0)
+    → length b.facts + 1 ≤ room
+    → h ≡ EditEntry 0 1 (Timing b.hardware) ∷ fact_entries 2 b.facts
+    → inputs ≡ record { image = b.image; facts = numbered_from 2 b.facts; hardware = b.hardware }
+    → count ≡ length b.facts + 1
+    → stamp ≡ stamp_from first 1 b.facts
     → slots ≡ []
     → home ≡ 0 ∷ []
-    → Opens chain feature (plain_opening inputs.image hardware facts) h inputs count stamp slots home room
-opens_all {V} chain feature image hardware facts first room h inputs count stamp slots home first_is within h_is inputs_are count_is stamp_is slots_are home_is =
-    let base = opens {V = V} chain feature image hardware facts first room first_is within in
-    let s : Setting = record { image = image; facts = numbered_from 2 facts; hardware = hardware } in
-    let o : Opening = plain_opening image hardware facts in
-    let A : List Entry → Type 0 = λ x. Opens {V = V} chain feature o x s (length facts + 1) (stamp_from first 1 facts) [] (0 ∷ []) room in
-    let B : ℕ → Type 0 = λ x. Opens {V = V} chain feature o h s x (stamp_from first 1 facts) [] (0 ∷ []) room in
-    let C : ℕ → Type 0 = λ x. Opens {V = V} chain feature o h s count x [] (0 ∷ []) room in
-    let D : List (Slot V) → Type 0 = λ x. Opens {V = V} chain feature o h s count stamp x (0 ∷ []) room in
-    let E : List ℕ → Type 0 = λ x. Opens {V = V} chain feature o h s count stamp slots x room in
-    let F : Setting → Type 0 = λ x. Opens {V = V} chain feature (plain_opening x.image hardware facts) h x count stamp slots home room in
+    → Opens chain feature (record b { image = inputs.image }) h (record { inputs = inputs; count = count; stamp = stamp; slots = slots; home = home; runner = None; owed = 0; room = room })
+opens_all {V} chain feature b first room h inputs count stamp slots home first_is within h_is inputs_are count_is stamp_is slots_are home_is =
+    let base = opens {V = V} chain feature b first room first_is within in
+    let d : Stock V = first_stock b first room in
+    let A : List Entry → Type 0 = λ x. Opens {V = V} chain feature b x d in
+    let B : ℕ → Type 0 = λ x. Opens {V = V} chain feature b h (record d { count = x }) in
+    let C : ℕ → Type 0 = λ x. Opens {V = V} chain feature b h (record d { count = count; stamp = x }) in
+    let D : List (Slot V) → Type 0 = λ x. Opens {V = V} chain feature b h (record d { count = count; stamp = stamp; slots = x }) in
+    let E : List ℕ → Type 0 = λ x. Opens {V = V} chain feature b h (record d { count = count; stamp = stamp; slots = slots; home = x }) in
+    let F : Setting → Type 0 = λ x. Opens {V = V} chain feature (record b { image = x.image }) h (record { inputs = x; count = count; stamp = stamp; slots = slots; home = home; runner = None; owed = 0; room = room }) in
     subst F (sym inputs_are) (subst E (sym home_is) (subst D (sym slots_are) (subst C (sym stamp_is) (subst B (sym count_is) (subst A (sym h_is) base)))))
 
 pub one_work : {A : Type 0} (f : A → ℕ) (xs : List A) (n : ℕ) → map f xs ≡ n ∷ [] → length xs ≡ 1
@@ -131,38 +183,56 @@ one_work f [] n is = cc
 one_work f (x ∷ []) n is = refl
 one_work f (x ∷ y ∷ ys) n is = cc
 
-closed_case : {V : Type 0} (count stamp : ℕ) (slots : List (Slot V)) (ask : Option Ask) (home : List ℕ) (out : List Run) → out ≡ [] → IsTurnOf count stamp slots ask home out → IsOne home
-closed_case count stamp slots None (r ∷ []) out none turn = (r, refl)
-closed_case count stamp slots (Some a) (r ∷ []) out none turn = (r, refl)
-closed_case count stamp slots None [] out none turn = absurd turn
-closed_case count stamp slots (Some a) [] out none turn = let there = sym none ∙ turn.4.1 in cc
-closed_case count stamp slots None (x ∷ y ∷ z) out none turn = absurd turn
-closed_case count stamp slots (Some a) (x ∷ y ∷ z) out none turn = absurd turn
+-- Where no run is out, the work is at home.
+closed_case : {V : Type 0} (o : Opening) (st : State) (d : Stock V) (long : ℕ) (runner : Option ℕ) → WorkIs o st d long runner → st.out ≡ [] → (runs : ℕ) × (d.home ≡ runs ∷ [])
+closed_case o st d long None work none = (work.runs, work.home_is)
+closed_case o st d long (Some s) work none = absurd (let there = sym none ∙ work.out_is in cc)
 
-one_kind : {A : Type 0} (kind_of runs_of : A → ℕ) (P : A → Type 0) (works : List A) → IsOne (map runs_of works) → Each (λ w. (kind_of w ≡ 11) × P w) works → map kind_of works ≡ 11 ∷ []
+one_kind : {A : Type 0} (kind_of runs_of : A → ℕ) (P : A → Type 0) (works : List A) → (runs : ℕ) × (map runs_of works ≡ runs ∷ []) → Each (λ w. (kind_of w ≡ 11) × P w) works → map kind_of works ≡ 11 ∷ []
 one_kind kind_of runs_of P [] one each = let none = one.1 in cc
 one_kind kind_of runs_of P (w ∷ []) one each = ap (λ k. k ∷ []) each.0.0
 one_kind kind_of runs_of P (w ∷ x ∷ ws) one each = let two = one.1 in cc
 
-pub closed_all : {V A : Type 0} (chain : Chain) (feature : ℕ → Setting → List ℕ → V → Type 0) (image : Image) (hardware : Hardware) (facts : List Fact) (h : List Entry) (inputs : Setting) (count stamp : ℕ) (slots : List (Slot V)) (room : ℕ) (k : Known) (kind_of runs_of : A → ℕ) (P : A → Type 0) (works : List A)
-    → record { opening = plain_opening image hardware facts; history = h } ≡ k
-    → IsCore chain (feature 11) (plain_opening image hardware facts) h inputs count stamp slots (map runs_of works) room
+pub closed_all : {V A : Type 0} (chain : Chain) (feature : ℕ → Setting → List ℕ → V → Type 0) (b : Basis) (h : List Entry) (d : Stock V) (k : Known) (kind_of runs_of : A → ℕ) (P : A → Type 0) (works : List A)
+    → known b h ≡ k → IsCore chain feature b h d → d.home ≡ map runs_of works
     → Each (λ w. (kind_of w ≡ 11) × P w) works
     → RunsNothing k.opening k.history
     → map kind_of works ≡ 11 ∷ []
-closed_all chain feature image hardware facts h inputs count stamp slots room k kind_of runs_of P works view core each nothing =
+closed_all chain feature b h d k kind_of runs_of P works view core home each nothing =
     let N : Known → Type 0 = λ v. RunsNothing v.opening v.history in
     let rests = subst N (sym view) nothing in
-    let same = some_same _ _ (sym core.state ∙ rests.state) in
-    let out : core.out ≡ [] = ap (λ (s : State). s.out) same ∙ rests.none in
-    one_kind kind_of runs_of P works (closed_case count stamp slots core.ask (map runs_of works) core.out out core.turn) each
+    let same = some_same core.st rests.st (sym core.kept.state ∙ rests.state) in
+    let one = closed_case (opening_of b) core.st d (length h) d.runner core.work (ap (λ (s : State). s.out) same ∙ rests.none) in
+    one_kind kind_of runs_of P works (one.0, sym home ∙ one.1) each
 
-pub rests_all : {V : Type 0} (chain : Chain) (feature : ℕ → Setting → List ℕ → V → Type 0) (image : Image) (hardware : Hardware) (facts : List Fact) (h : List Entry) (inputs : Setting) (count stamp : ℕ) (slots : List (Slot V)) (home : List ℕ) (room : ℕ) (k : Known)
-    → record { opening = plain_opening image hardware facts; history = h } ≡ k
-    → IsCore chain (feature 11) (plain_opening image hardware facts) h inputs count stamp slots home room
-    → LeavesFree k.opening k.history 1 → RunsNothing k.opening k.history
-rests_all chain feature image hardware facts h inputs count stamp slots home room k view core leaves =
-    let L : Known → Type 0 = λ v. LeavesFree v.opening v.history 1 in
+-- The runs of the works are those of the replay.
+pub runs_all : {V A : Type 0} (chain : Chain) (feature : ℕ → Setting → List ℕ → V → Type 0) (b : Basis) (h : List Entry) (d : Stock V) (k : Known) (runs_of : A → ℕ) (works : List A) (st : State)
+    → known b h ≡ k → (core : IsCore chain feature b h d) → d.home ≡ map runs_of works → state_after k.opening k.history ≡ Some st
+    → map runs_of works ≡ home_of bound_kind st.home
+runs_all chain feature b h d k runs_of works st view core home state =
+    let S : Known → Type 0 = λ v. state_after v.opening v.history ≡ Some st in
+    let same = some_same core.st st (sym core.kept.state ∙ subst S (sym view) state) in
+    sym home ∙ sym (ap (home_of bound_kind) core.home) ∙ ap (λ (s : State). home_of bound_kind s.home) same
+
+-- Where no session has an open ask, no run is out.
+rests_case : {V : Type 0} (b : Basis) (st : State) (d : Stock V) (long : ℕ) (runner : Option ℕ) → WorkIs (opening_of b) st d long runner
+    → ((session : ℕ) → 1 ≤ session → session ≤ b.sessions → is_free (opening_of b) st session ≡ true) → st.out ≡ []
+rests_case b st d long None work free = work.out_is
+rests_case b st d long (Some s) work free =
+    let there = session_within (opening_of b) s work.known in
+    let none = and_right (is_session (opening_of b) s) (is_none (ask_at s st.asks)) (free s there.0 there.1) in
+    let some = sym (ap (λ (a : Option Ask). is_none a) work.asked) ∙ none in absurd (cc)
+
+pub rests_all : {V : Type 0} (chain : Chain) (feature : ℕ → Setting → List ℕ → V → Type 0) (b : Basis) (h : List Entry) (d : Stock V) (k : Known)
+    → known b h ≡ k → IsCore chain feature b h d → LeavesAllFree k.opening k.history → RunsNothing k.opening k.history
+rests_all chain feature b h d k view core leaves =
+    let L : Known → Type 0 = λ v. LeavesAllFree v.opening v.history in
     let N : Known → Type 0 = λ v. RunsNothing v.opening v.history in
-    let free = core_free chain (feature 11) image hardware facts h inputs count stamp slots home room 1 core (subst L (sym view) leaves) in
-    subst N view (record { st = _; state = free.1.state; none = refl })
+    let all = subst L (sym view) leaves in
+    let free : (session : ℕ) → 1 ≤ session → session ≤ b.sessions → is_free (opening_of b) core.st session ≡ true = λ session least most.
+    (let own = all session least most in let F : State → Type 0 = λ x. is_free (opening_of b) x session ≡ true in subst F (some_same own.st core.st (sym own.state ∙ core.kept.state)) own.free) in
+    subst N view (record { st = core.st; state = core.kept.state; none = rests_case b core.st d (length h) d.runner core.work free })
+
+-- A session that is alone.
+pub alone_free : (o : Opening) (h : List Entry) → o.sessions ≡ 1 → LeavesFree o h 1 → LeavesAllFree o h
+alone_free o h one free = λ session least most. let F : ℕ → Type 0 = λ s. LeavesFree o h s in let same : 1 ≡ session = omega (arith, one) in subst F same free

@@ -1,89 +1,24 @@
--- What an open ask does: it answers or starts.
-use Rattle.std.proofs.Common.{◌≡◌, ℕ, ◌+◌, ◌≤◌, Bool, true, false, ◌&&◌, ◌||◌, List, [], ◌∷◌, ◌++◌, length, take, map, Option, None, Some, nat_le, refl, sym, ap, subst, ◌∙◌, arith, if◌then◌else◌}
+-- What comes next for an open ask, and what an answer owes.
+use Rattle.std.proofs.Common.{◌≡◌, ◌≢◌, ℕ, ◌+◌, ◌-◌, ◌≤◌, Bool, true, false, not, ◌&&◌, ◌||◌, ◌==◌, List, [], ◌∷◌, ◌++◌, length, map, Option, None, Some, MatchOption, is_none, refl, sym, ap, subst, ◌∙◌, arith, if◌then◌else◌}
 use Rattle.std.proofs.lemmas.List.{append-nil}
-use Rattle.std.proofs.lemmas.Bool.{leb-true}
-use Rattle.wc_model.specs.declared.elf_image.Image.{Image}
 use Rattle.wc_model.specs.declared.entries.Entry.{Entry}
-use Rattle.wc_model.specs.declared.entries.Entry.TheVariants.{Start, Answer}
-use Rattle.wc_model.specs.declared.flow_facts.Fact.{Fact}
-use Rattle.wc_model.specs.declared.machine.Hardware.{Hardware}
+use Rattle.wc_model.specs.declared.entries.Entry.TheVariants.{Answer}
 use Rattle.wc_model.specs.declared.values.Outcome.{Outcome}
 use Rattle.wc_model.specs.declared.values.Outcome.TheVariants.{Bound, Fault, Memory}
-use Rattle.wc_model.specs.Closures.{has_kind, last_touch}
-use Rattle.wc_model.specs.Edits.{Setting, bare, after_edits, edits_of}
-use Rattle.wc_model.specs.History.{Opening, State, Row, Run, Ask, Chain, IsLegal, IsOutcome, state_after, step, open_ask, own_run, ask_at, is_session, inputs_at, within_reach, is_memory, bound_kind}
-use Rattle.wc_model.proofs.Replays.{Kept}
-use Rattle.wc_core.specs.declared.store.Slot.{Slot}
-use Rattle.wc_core.specs.Answers.{LeavesFree}
-use Rattle.wc_core.specs.Features.{Each}
-use Rattle.wc_core.specs.Fits.{FitsTicket, FitsFlight, is_settled, names_needed}
-use Rattle.wc_core.specs.Holds.{all_parts, plain_opening, plain_state, row_of, has_value, is_reached, IsTurnOf, IsCore, entries_needed}
-use Rattle.wc_core.specs.Turns.{Turn, answers, starts, next_turn, turn_for, at_home, IsTurn, OutcomeIs}
-use Rattle.wc_core.specs.Views.{KnownTicket, KnownFlight, ask_of}
-use Rattle.wc_core.proofs.Cores.{IsOne, grown, rebuilt, kept_of, core_legal, core_inputs_at, core_stamp_at, ran_more, some_same, turn_free}
-use Rattle.wc_core.proofs.Steps.{step_start, step_no_memory, step_reached, stored_is}
-
-pub if_some : {A : Type 0} (b : Bool) (x : Option A) (a : A) → (if b then x else None) ≡ Some a → (b ≡ true) × (x ≡ Some a)
-if_some true x a p = (refl, p)
-if_some false x a p = cc
-
-and_left : (a b : Bool) → (a && b) ≡ true → a ≡ true
-and_left true b p = refl
-and_left false b p = p
-
-and_right : (a b : Bool) → (a && b) ≡ true → b ≡ true
-and_right true b p = p
-and_right false b p = cc
-
-pub session_is : (s : ℕ) → (nat_le 1 s && nat_le s 1) ≡ true → s ≡ 1
-session_is s p = omega (arith, leb-true 1 s (and_left (nat_le 1 s) (nat_le s 1) p), leb-true s 1 (and_right (nat_le 1 s) (nat_le s 1) p))
-
-asked_case : {V : Type 0} (chain : Chain) (o : Opening) (h : List Entry) (count stamp : ℕ) (slots : List (Slot V)) (rows : List Row) (ask : Option Ask) (home : List ℕ) (out : List Run) (own : Ask)
-    → ask ≡ Some own → own_run 1 out ≡ None → IsTurnOf count stamp slots ask home out → Kept chain o h (plain_state (edits_of h) rows home out ask)
-    → Kept chain o h (plain_state (edits_of h) rows home [] (Some own)) × IsOne home × (own.at ≡ count)
-asked_case chain o h count stamp slots rows None home out own is rests turn kept = cc
-asked_case chain o h count stamp slots rows (Some a) (runs ∷ []) out own is rests turn kept =
-    let same : a ≡ own = some_same a own is in
-    let P : List Run → Type 0 = λ l. Kept chain o h (plain_state (edits_of h) rows (runs ∷ []) l (Some a)) in
-    let Q : Ask → Type 0 = λ b. Kept chain o h (plain_state (edits_of h) rows (runs ∷ []) [] (Some b)) in
-    (subst Q same (subst P turn.0 kept), (runs, refl), ap (λ (b : Ask). b.at) (sym same) ∙ turn.1)
-asked_case chain o h count stamp slots rows (Some a) [] out own is rests turn kept =
-    let flies = ap (own_run 1) (sym turn.4.1) ∙ rests in cc
-asked_case chain o h count stamp slots rows (Some a) (x ∷ y ∷ z) out own is rests turn kept = absurd turn
-
-pub record IsAsked {V : Type 0} (chain : Chain) (o : Opening) (h : List Entry) (inputs : Setting) (count stamp : ℕ) (slots : List (Slot V)) (home : List ℕ) (room : ℕ) (t : KnownTicket V) : Type 0 where
-  pub one : t.session ≡ 1
-  pub kept : Kept chain o h (plain_state (edits_of h) (map (row_of stamp) slots) home [] (Some (ask_of t)))
-  pub single : IsOne home
-  pub here : t.at ≡ count
-  pub inputs_are : t.inputs ≡ inputs
-  pub within : length h + entries_needed (Some (ask_of t)) home ≤ room
-
-pub core_asked : {V : Type 0} (chain : Chain) (feature : ℕ → Setting → List ℕ → V → Type 0) (image : Image) (hardware : Hardware) (facts : List Fact) (h : List Entry) (inputs : Setting) (count stamp : ℕ) (slots : List (Slot V)) (home : List ℕ) (room : ℕ) (t : KnownTicket V)
-    → IsCore chain (feature 11) (plain_opening image hardware facts) h inputs count stamp slots home room
-    → FitsTicket feature (plain_opening image hardware facts) h t
-    → IsAsked chain (plain_opening image hardware facts) h inputs count stamp slots home room t
-core_asked chain feature image hardware facts h inputs count stamp slots home room t core fits =
-    let o : Opening = plain_opening image hardware facts in
-    let st : State = plain_state (edits_of h) (map (row_of stamp) slots) home core.out core.ask in
-    let same : fits.st ≡ st = some_same _ _ (sym fits.state ∙ core.state) in
-    let asked : open_ask o st t.session ≡ Some (ask_of t) = ap (λ s. open_ask o s t.session) (sym same) ∙ fits.is_open.ask in
-    let both = if_some (is_session o t.session) (ask_at t.session st.asks) (ask_of t) asked in
-    let one : t.session ≡ 1 = session_is t.session both.0 in
-    let ask_is : core.ask ≡ Some (ask_of t) = ap (λ s. ask_at s st.asks) (sym one) ∙ both.1 in
-    let rests : own_run 1 core.out ≡ None = ap (λ s. own_run s core.out) (sym one) ∙ ap (λ (s : State). own_run t.session s.out) (sym same) ∙ fits.rests in
-    let rest = asked_case chain o h count stamp slots (map (row_of stamp) slots) core.ask home core.out (ask_of t) ask_is rests core.turn (kept_of chain (feature 11) o h inputs count stamp slots home room core) in
-    let W : Option Ask → Type 0 = λ a. length h + entries_needed a home ≤ room in
-    record {
-      one = one;
-      kept = rest.0;
-      single = rest.1;
-      here = rest.2;
-      inputs_are = fits.is_open.inputs ∙ ap (λ s. inputs_at o s t.at) same ∙ ap (λ n. after_edits image n (edits_of h)) rest.2 ∙ sym (core_inputs_at chain (feature 11) o h inputs count stamp slots home room core);
-      within = subst W ask_is core.within;
-    }
-
--- Whose turn it is.
+use Rattle.wc_model.specs.Closures.{has_kind}
+use Rattle.wc_model.specs.Edits.{Setting, after, after_edits}
+use Rattle.wc_model.specs.History.{Opening, State, Run, Ask, Chain, IsOutcome, is_session, own_run, ask_at, with_ask, home_of, in_store, stamp_at, same_name, within_reach, is_memory, bound_kind}
+use Rattle.wc_model.proofs.Sharing.{asked_same, asked_other, length-with_ask, LeavesOthers}
+use Rattle.wc_core.specs.Features.{Tells}
+use Rattle.wc_core.specs.Fits.{FitsTicket}
+use Rattle.wc_core.specs.Holds.{Basis, Stock, opening_of, entries_needed, ask_needs, is_reached, IsAway, WorkIs, IsCore}
+use Rattle.wc_core.specs.Turns.{Turn, answers, starts, waits, next_turn, turn_for, at_home, unless_running, runner_of_key, IsTurn, OutcomeIs}
+use Rattle.wc_core.specs.Views.{Known, KnownTicket, ask_of}
+use Rattle.wc_core.proofs.Cores.{known, moved, restock, work_on, core_asked, IsResting}
+use Rattle.wc_core.proofs.Goings.{Goes}
+use Rattle.wc_core.proofs.OpenAsks.{some_same, needs_with, needs_at, needs_two, pinned_with, session_within}
+use Rattle.wc_core.proofs.Steps.{step_answer}
+use Rattle.wc_core.proofs.Stored.{same_number, stored_is}
 
 if_true : (b : Bool) (x y : Turn) → b ≡ true → (if b then x else y) ≡ x
 if_true true x y p = refl
@@ -97,66 +32,149 @@ missing_if : (b : Bool) (k : ℕ) → b ≡ false → (if b then None else Some 
 missing_if false k p = refl
 missing_if true k p = cc
 
-or_left : (a b : Bool) → (a || b) ≡ false → a ≡ false
+pub or_left : (a b : Bool) → (a || b) ≡ false → a ≡ false
 or_left false b p = refl
 or_left true b p = p
 
-or_right : (a b : Bool) → (a || b) ≡ false → b ≡ false
+pub or_right : (a b : Bool) → (a || b) ≡ false → b ≡ false
 or_right false b p = p
 or_right true b p = cc
 
-reach_is : {V : Type 0} (image : Image) (hardware : Hardware) (facts : List Fact) (h : List Entry) (stamp : ℕ) (slots : List (Slot V)) (home : List ℕ) (t : KnownTicket V)
-    → t.at ≡ length (edits_of h) → stamp ≡ last_touch all_parts 0 0 (bare image) (edits_of h)
-    → (t.memory || within_reach (plain_opening image hardware facts) (plain_state (edits_of h) (map (row_of stamp) slots) home [] (Some (ask_of t))) (ask_of t) bound_kind) ≡ is_reached t slots
-reach_is image hardware facts h stamp slots home t here same =
-    ap (λ b. t.memory || (has_kind bound_kind (ask_of t).kinds || b)) (stored_is image (edits_of h) stamp t.at slots t.name here same)
+-- The turn by what is reached and by who is out.
+abbrev pub turn_by : Bool → Option ℕ → Turn
+turn_by true runner = answers
+turn_by false None = starts bound_kind
+turn_by false (Some session) = waits session
 
-turn_reached : {V : Type 0} (image : Image) (hardware : Hardware) (facts : List Fact) (h : List Entry) (stamp : ℕ) (slots : List (Slot V)) (home : List ℕ) (t : KnownTicket V)
-    → t.at ≡ length (edits_of h) → stamp ≡ last_touch all_parts 0 0 (bare image) (edits_of h) → is_reached t slots ≡ true
-    → next_turn (plain_opening image hardware facts) (plain_state (edits_of h) (map (row_of stamp) slots) home [] (Some (ask_of t))) (ask_of t) ≡ answers
-turn_reached image hardware facts h stamp slots home t here same reached =
-    if_true _ _ _ (reach_is image hardware facts h stamp slots home t here same ∙ reached)
+key_case : (run : Run) (there : Bool) → run.kind ≡ bound_kind → unless_running bound_kind [] (run ∷ []) (if there then Some run.session else None) ≡ waits run.session
+key_case run true kind = refl
+key_case run false kind = ap (λ k. waits (if k == bound_kind then run.session else 0)) kind
 
-turn_missing : {V : Type 0} (image : Image) (hardware : Hardware) (facts : List Fact) (h : List Entry) (stamp : ℕ) (slots : List (Slot V)) (home : List ℕ) (t : KnownTicket V)
-    → t.at ≡ length (edits_of h) → stamp ≡ last_touch all_parts 0 0 (bare image) (edits_of h) → IsOne home → is_reached t slots ≡ false
-    → next_turn (plain_opening image hardware facts) (plain_state (edits_of h) (map (row_of stamp) slots) home [] (Some (ask_of t))) (ask_of t) ≡ starts bound_kind
-turn_missing image hardware facts h stamp slots home t here same single missing =
-    let o : Opening = plain_opening image hardware facts in
-    let st : State = plain_state (edits_of h) (map (row_of stamp) slots) home [] (Some (ask_of t)) in
-    let out = reach_is image hardware facts h stamp slots home t here same ∙ missing in
-    if_false _ _ _ out
-    ∙ ap (turn_for o st (ask_of t)) (missing_if (within_reach o st (ask_of t) bound_kind) bound_kind (or_right t.memory _ out))
-    ∙ ap (λ l. at_home bound_kind l []) single.1
+out_turn : {V : Type 0} (o : Opening) (st : State) (d : Stock V) (long : ℕ) (runner : Option ℕ) (name : List ℕ) (n : ℕ)
+    → WorkIs o st d long runner → st.home ≡ (bound_kind, d.home) ∷ []
+    → unless_running bound_kind (home_of bound_kind st.home) st.out (runner_of_key bound_kind name n st.out) ≡ turn_by false runner
+out_turn o st d long None name n work home =
+    ap (λ out. unless_running bound_kind (home_of bound_kind st.home) out (runner_of_key bound_kind name n out)) work.out_is
+    ∙ ap (λ hs. at_home bound_kind (home_of bound_kind hs) []) (home ∙ ap (λ l. (bound_kind, l) ∷ []) work.home_is)
+out_turn o st d long (Some session) name n work home =
+    ap (λ out. unless_running bound_kind (home_of bound_kind st.home) out (runner_of_key bound_kind name n out)) work.out_is
+    ∙ ap (λ hs. unless_running bound_kind (home_of bound_kind hs) (work.run ∷ []) (runner_of_key bound_kind name n (work.run ∷ []))) (home ∙ ap (λ l. (bound_kind, l) ∷ []) work.home_is)
+    ∙ key_case work.run (work.run.kind == bound_kind && same_name work.run.name name && work.run.stamp == n) work.kind_is
+    ∙ ap waits work.session_is
 
-turn_at : (o : Opening) (h : List Entry) (st : State) (ask : Ask) (turn : Turn) → state_after o h ≡ Some st → next_turn o st ask ≡ turn → IsTurn o h ask turn
-turn_at o h st ask turn state is = λ other found. ap (λ s. next_turn o s ask) (some_same other st (sym found ∙ state)) ∙ is
+pub reach_is : {V : Type 0} (chain : Chain) (feature : ℕ → Setting → List ℕ → V → Type 0) (b : Basis) (h : List Entry) (d : Stock V) (t : KnownTicket V) (core : IsCore chain feature b h d) → IsResting feature b core.st d t
+    → (t.memory || within_reach (opening_of b) core.st (ask_of t) bound_kind) ≡ is_reached t d.stamp d.slots
+reach_is chain feature b h d t core resting =
+    let has : Bool = has_kind bound_kind (ask_of t).kinds in
+    ap (λ n. t.memory || (has || in_store bound_kind t.name n core.st.rows)) (sym resting.asked.is_open.stamp_is)
+    ∙ ap (λ rows. t.memory || (has || in_store bound_kind t.name t.stamp rows)) core.rows
+    ∙ ap (λ there. t.memory || (has || there)) (stored_is t.name t.stamp d.stamp d.slots)
 
-pub turn_answers : {V : Type 0} (chain : Chain) (feature : ℕ → Setting → List ℕ → V → Type 0) (image : Image) (hardware : Hardware) (facts : List Fact) (h : List Entry) (inputs : Setting) (count stamp : ℕ) (slots : List (Slot V)) (home : List ℕ) (room : ℕ) (t : KnownTicket V)
-    → IsCore chain (feature 11) (plain_opening image hardware facts) h inputs count stamp slots home room
-    → IsAsked chain (plain_opening image hardware facts) h inputs count stamp slots home room t
-    → is_reached t slots ≡ true → IsTurn (plain_opening image hardware facts) h (ask_of t) answers
-turn_answers {V} chain feature image hardware facts h inputs count stamp slots home room t core asked reached =
-    turn_at (plain_opening image hardware facts) h (plain_state (edits_of h) (map (row_of stamp) slots) home [] (Some (ask_of t))) (ask_of t) answers asked.kept.state (turn_reached image hardware facts h stamp slots home t (asked.here ∙ core.count_is) core.stamp_is reached)
+turn_case : {V : Type 0} (chain : Chain) (feature : ℕ → Setting → List ℕ → V → Type 0) (b : Basis) (h : List Entry) (d : Stock V) (t : KnownTicket V) (core : IsCore chain feature b h d) (reached : Bool)
+    → (t.memory || within_reach (opening_of b) core.st (ask_of t) bound_kind) ≡ reached
+    → next_turn (opening_of b) core.st (ask_of t) ≡ turn_by reached d.runner
+turn_case chain feature b h d t core true is = if_true _ _ _ is
+turn_case chain feature b h d t core false is =
+    let o : Opening = opening_of b in
+    if_false _ _ _ is
+    ∙ ap (turn_for o core.st (ask_of t)) (missing_if (within_reach o core.st (ask_of t) bound_kind) bound_kind (or_right t.memory _ is))
+    ∙ out_turn o core.st d (length h) d.runner t.name (stamp_at o core.st bound_kind t.at) core.work core.home
 
-pub turn_starts : {V : Type 0} (chain : Chain) (feature : ℕ → Setting → List ℕ → V → Type 0) (image : Image) (hardware : Hardware) (facts : List Fact) (h : List Entry) (inputs : Setting) (count stamp : ℕ) (slots : List (Slot V)) (home : List ℕ) (room : ℕ) (t : KnownTicket V)
-    → IsCore chain (feature 11) (plain_opening image hardware facts) h inputs count stamp slots home room
-    → IsAsked chain (plain_opening image hardware facts) h inputs count stamp slots home room t
-    → is_reached t slots ≡ false → IsTurn (plain_opening image hardware facts) h (ask_of t) (starts bound_kind)
-turn_starts {V} chain feature image hardware facts h inputs count stamp slots home room t core asked missing =
-    turn_at (plain_opening image hardware facts) h (plain_state (edits_of h) (map (row_of stamp) slots) home [] (Some (ask_of t))) (ask_of t) (starts bound_kind) asked.kept.state (turn_missing image hardware facts h stamp slots home t (asked.here ∙ core.count_is) core.stamp_is asked.single missing)
+turn_is : {V : Type 0} (chain : Chain) (feature : ℕ → Setting → List ℕ → V → Type 0) (b : Basis) (h : List Entry) (d : Stock V) (t : KnownTicket V) (core : IsCore chain feature b h d) → IsResting feature b core.st d t
+    → next_turn (opening_of b) core.st (ask_of t) ≡ turn_by (is_reached t d.stamp d.slots) d.runner
+turn_is chain feature b h d t core resting = turn_case chain feature b h d t core (is_reached t d.stamp d.slots) (reach_is chain feature b h d t core resting)
+
+pub turn_all : {V : Type 0} (chain : Chain) (feature : ℕ → Setting → List ℕ → V → Type 0) (b : Basis) (h : List Entry) (d : Stock V) (t : KnownTicket V) (k : Known) (reached : Bool) (runner : Option ℕ)
+    → known b h ≡ k → IsCore chain feature b h d → FitsTicket feature k.opening k.history t
+    → is_reached t d.stamp d.slots ≡ reached → d.runner ≡ runner
+    → IsTurn k.opening k.history (ask_of t) (turn_by reached runner)
+turn_all chain feature b h d t k reached runner view core fits reached_is runner_is =
+    let resting = core_asked chain feature b h d t k view core fits in
+    let is = turn_is chain feature b h d t core resting ∙ ap (λ r. turn_by r d.runner) reached_is ∙ ap (turn_by reached) runner_is in
+    let T : Known → Type 0 = λ v. IsTurn v.opening v.history (ask_of t) (turn_by reached runner) in
+    subst T view (λ st found. ap (λ s. next_turn (opening_of b) s (ask_of t)) (some_same st core.st (sym found ∙ core.kept.state)) ∙ is)
 
 -- and back again
-reached_back : {V : Type 0} (image : Image) (hardware : Hardware) (facts : List Fact) (h : List Entry) (stamp : ℕ) (slots : List (Slot V)) (home : List ℕ) (t : KnownTicket V) (b : Bool)
-    → t.at ≡ length (edits_of h) → stamp ≡ last_touch all_parts 0 0 (bare image) (edits_of h) → IsOne home → is_reached t slots ≡ b
-    → next_turn (plain_opening image hardware facts) (plain_state (edits_of h) (map (row_of stamp) slots) home [] (Some (ask_of t))) (ask_of t) ≡ answers → is_reached t slots ≡ true
-reached_back image hardware facts h stamp slots home t true here same single is turn = is
-reached_back image hardware facts h stamp slots home t false here same single is turn = let other = turn_missing image hardware facts h stamp slots home t here same single is in cc
+pub turn_back : {V : Type 0} (chain : Chain) (feature : ℕ → Setting → List ℕ → V → Type 0) (b : Basis) (h : List Entry) (d : Stock V) (t : KnownTicket V) (k : Known) (turn : Turn)
+    → known b h ≡ k → (core : IsCore chain feature b h d) → IsResting feature b core.st d t → IsTurn k.opening k.history (ask_of t) turn
+    → turn_by (is_reached t d.stamp d.slots) d.runner ≡ turn
+turn_back chain feature b h d t k turn view core resting is =
+    let T : Known → Type 0 = λ v. IsTurn v.opening v.history (ask_of t) turn in
+    let own = subst T (sym view) is in sym (turn_is chain feature b h d t core resting) ∙ own core.st core.kept.state
 
-missing_back : {V : Type 0} (image : Image) (hardware : Hardware) (facts : List Fact) (h : List Entry) (stamp : ℕ) (slots : List (Slot V)) (home : List ℕ) (t : KnownTicket V) (b : Bool)
-    → t.at ≡ length (edits_of h) → stamp ≡ last_touch all_parts 0 0 (bare image) (edits_of h) → is_reached t slots ≡ b
-    → next_turn (plain_opening image hardware facts) (plain_state (edits_of h) (map (row_of stamp) slots) home [] (Some (ask_of t))) (ask_of t) ≡ starts bound_kind → is_reached t slots ≡ false
-missing_back image hardware facts h stamp slots home t false here same is turn = is
-missing_back image hardware facts h stamp slots home t true here same is turn = let other = turn_reached image hardware facts h stamp slots home t here same is in cc
+reached_if : (reached : Bool) (runner : Option ℕ) → turn_by reached runner ≡ answers → reached ≡ true
+reached_if true runner is = refl
+reached_if false None is = cc
+reached_if false (Some s) is = cc
+
+pub starts_if : (reached : Bool) (runner : Option ℕ) → turn_by reached runner ≡ starts bound_kind → (reached ≡ false) × (runner ≡ None)
+starts_if true runner is = cc
+starts_if false None is = (refl, refl)
+starts_if false (Some s) is = cc
+
+-- What a bound tells.
+pub told : (chain : Chain) (inputs : Setting) (name : List ℕ) (memory reached : Bool) (r : Option Outcome) → memory ≡ false → reached ≡ true → Tells (chain inputs name) r
+    → MatchOption r (reached ≡ false) (λ o. (reached ≡ true) × OutcomeIs chain memory inputs name o)
+told chain inputs name memory reached None quiet is tells = absurd tells
+told chain inputs name memory reached (Some Memory) quiet is tells = absurd tells
+told chain inputs name memory reached (Some (Bound b)) quiet is tells = (is, rw quiet tells)
+told chain inputs name memory reached (Some (Fault f)) quiet is tells = (is, rw quiet tells)
+
+-- The outcome on the ask's inputs is the one on the inputs at its count.
+pub outcome_all : {V : Type 0} (chain : Chain) (feature : ℕ → Setting → List ℕ → V → Type 0) (b : Basis) (h : List Entry) (d : Stock V) (t : KnownTicket V) (k : Known) (outcome : Outcome)
+    → known b h ≡ k → IsCore chain feature b h d → FitsTicket feature k.opening k.history t
+    → OutcomeIs chain t.memory t.inputs t.name outcome → OutcomeIs chain t.memory (after k.opening.image t.at k.history) t.name outcome
+outcome_all chain feature b h d t k outcome view core fits is =
+    let resting = core_asked chain feature b h d t k view core fits in
+    let I : Setting → Type 0 = λ i. OutcomeIs chain t.memory i t.name outcome in
+    let O : Known → Type 0 = λ v. OutcomeIs chain t.memory (after v.opening.image t.at v.history) t.name outcome in
+    subst O view (subst I (resting.asked.is_open.inputs ∙ ap (after_edits b.image t.at) core.kept.edits) is)
+
+-- The run that is out is another session's.
+own_same : (s : ℕ) (run : Run) → run.session ≡ s → own_run s (run ∷ []) ≡ Some run
+own_same s run is = rw (same_number run.session s is) refl
+
+run_apart : {V : Type 0} (o : Opening) (st : State) (d : Stock V) (long session s : ℕ) → (away : IsAway o st d long s) → own_run session st.out ≡ None → s ≢ session
+run_apart o st d long session s away rests = λ same. let there = sym (own_same session away.run (away.session_is ∙ same)) ∙ ap (own_run session) (sym away.out_is) ∙ rests in cc
+
+waits_case : {V : Type 0} (chain : Chain) (feature : ℕ → Setting → List ℕ → V → Type 0) (b : Basis) (st : State) (d : Stock V) (t : KnownTicket V) (long session : ℕ) (runner : Option ℕ)
+    → b.sessions ≡ 1 → IsResting feature b st d t → WorkIs (opening_of b) st d long runner → runner ≡ Some session → ⊥
+waits_case chain feature b st d t long session None one resting work is = cc
+waits_case chain feature b st d t long session (Some s) one resting work is =
+    let mine = session_within (opening_of b) t.session resting.asked.known_ in
+    let other = session_within (opening_of b) s work.known in
+    run_apart (opening_of b) st d long t.session s work resting.rests (omega (arith, one, mine.0, mine.1, other.0, other.1))
+
+-- Where there is one session, an ask waits for nobody.
+pub waits_alone : {V : Type 0} (chain : Chain) (feature : ℕ → Setting → List ℕ → V → Type 0) (b : Basis) (h : List Entry) (d : Stock V) (t : KnownTicket V) (k : Known) (session : ℕ)
+    → known b h ≡ k → IsCore chain feature b h d → FitsTicket feature k.opening k.history t → d.runner ≡ Some session → k.opening.sessions ≡ 1 → ⊥
+waits_alone chain feature b h d t k session view core fits runner one =
+    let resting = core_asked chain feature b h d t k view core fits in
+    waits_case chain feature b core.st d t (length h) session d.runner (ap (λ (v : Known). v.opening.sessions) view ∙ one) resting core.work runner
+
+-- The entries that the ask may still add are owed.
+owed_case : {V : Type 0} (feature : ℕ → Setting → List ℕ → V → Type 0) (b : Basis) (st : State) (d : Stock V) (t : KnownTicket V) (long : ℕ) (runner : Option ℕ)
+    → IsResting feature b st d t → WorkIs (opening_of b) st d long runner → entries_needed (ask_of t) ≤ d.owed
+owed_case feature b st d t long None resting work =
+    omega (arith, work.owes, needs_at t.session st.asks, ap ask_needs resting.asked.asked)
+owed_case feature b st d t long (Some s) resting work =
+    omega (arith, work.owes, needs_two t.session s st.asks resting.asked.place (run_apart (opening_of b) st d long t.session s work resting.rests), ap ask_needs resting.asked.asked, ap ask_needs work.asked, work.needs)
+
+one_needed : (settled : Bool) → 1 ≤ (if settled then 1 else 3)
+one_needed true = omega arith
+one_needed false = omega arith
+
+pub record HasRoom {V : Type 0} (before : ℕ) (d : Stock V) (t : KnownTicket V) : Type 0 where
+  pub owed : entries_needed (ask_of t) ≤ d.owed
+  pub least : 1 ≤ entries_needed (ask_of t)
+  pub within : before + 1 ≤ d.room
+
+pub room_all : {V : Type 0} (chain : Chain) (feature : ℕ → Setting → List ℕ → V → Type 0) (b : Basis) (h : List Entry) (d : Stock V) (t : KnownTicket V) (k : Known)
+    → known b h ≡ k → IsCore chain feature b h d → FitsTicket feature k.opening k.history t → HasRoom (length h) d t
+room_all chain feature b h d t k view core fits =
+    let owed = owed_case feature b core.st d t (length h) d.runner (core_asked chain feature b h d t k view core fits) core.work in
+    let least : 1 ≤ entries_needed (ask_of t) = one_needed (t.memory || has_kind bound_kind (ask_of t).kinds) in
+    record { owed = owed; least = least; within = omega (arith, core.within, owed, least) }
 
 -- An answer.
 
@@ -171,116 +189,79 @@ told_outcome chain inputs name Memory is = absurd is
 told_outcome chain inputs name (Bound b) is = refl
 told_outcome chain inputs name (Fault f) is = refl
 
-step_answer : {V : Type 0} (chain : Chain) (image : Image) (hardware : Hardware) (facts : List Fact) (h : List Entry) (inputs : Setting) (stamp : ℕ) (slots : List (Slot V)) (home : List ℕ) (ask : Ask) (outcome : Outcome) (memory : Bool)
-    → ask.at ≡ length (edits_of h) → stamp ≡ last_touch all_parts 0 0 (bare image) (edits_of h) → ask.memory ≡ memory
-    → (memory || (has_kind bound_kind ask.kinds || has_value ask.name slots)) ≡ true
-    → OutcomeIs chain memory inputs ask.name outcome
-    → step (plain_opening image hardware facts) (plain_state (edits_of h) (map (row_of stamp) slots) home [] (Some ask)) (Answer 1 ask.name ask.at outcome)
-    ≡ Some (plain_state (edits_of h) (map (row_of stamp) slots) home [] None)
-step_answer chain image hardware facts h inputs stamp slots home ask outcome true here same is reached told =
-    let P : Outcome → Type 0 = λ r. step (plain_opening image hardware facts) (plain_state (edits_of h) (map (row_of stamp) slots) home [] (Some ask)) (Answer 1 ask.name ask.at r) ≡ Some (plain_state (edits_of h) (map (row_of stamp) slots) home [] None) in
-    subst P (sym told) (step_no_memory image hardware facts (edits_of h) (map (row_of stamp) slots) home ask is)
-step_answer chain image hardware facts h inputs stamp slots home ask outcome false here same is reached told =
-    step_reached image hardware facts (edits_of h) stamp slots home ask outcome here same is reached (told_outcome chain inputs ask.name outcome told)
+right_case : (chain : Chain) (memory within : Bool) (inputs : Setting) (name : List ℕ) (outcome : Outcome) → (memory || within) ≡ true → OutcomeIs chain memory inputs name outcome
+    → (if memory then is_memory outcome else not (is_memory outcome) && within) ≡ true
+right_case chain true within inputs name outcome reached is = ap is_memory is
+right_case chain false within inputs name outcome reached is = rw (told_outcome chain inputs name outcome is) reached
 
-needs_one : (b : Bool) → 1 ≤ (if b then 1 else 3)
-needs_one true = omega arith
-needs_one false = omega arith
+and_both : (a b : Bool) → a ≡ true → b ≡ true → (a && b) ≡ true
+and_both true b p q = q
+and_both false b p q = p
 
-needed_one : (ask : Ask) (home : List ℕ) → IsOne home → 1 ≤ entries_needed (Some ask) home
-needed_one ask home single =
-    let P : List ℕ → Type 0 = λ l. 1 ≤ entries_needed (Some ask) l in subst P (sym single.1) (needs_one (ask.memory || has_kind bound_kind ask.kinds))
-
-pub has_room : {V : Type 0} (chain : Chain) (o : Opening) (h : List Entry) (inputs : Setting) (count stamp : ℕ) (slots : List (Slot V)) (home : List ℕ) (room : ℕ) (t : KnownTicket V)
-    → IsAsked chain o h inputs count stamp slots home room t → length h + 1 ≤ room
-has_room chain o h inputs count stamp slots home room t asked = omega (arith, asked.within, needed_one (ask_of t) home asked.single)
-
-pub record Answers {V : Type 0} (chain : Chain) (feature : ℕ → Setting → List ℕ → V → Type 0) (o : Opening) (h : List Entry) (inputs : Setting) (count stamp : ℕ) (slots : List (Slot V)) (home : List ℕ) (room session : ℕ) : Type 0 where
-  pub core : IsCore chain (feature 11) o h inputs count stamp slots home room
-  pub legal : IsLegal chain o h
-  pub free : LeavesFree o h session
-
-pub core_answer : {V : Type 0} (chain : Chain) (feature : ℕ → Setting → List ℕ → V → Type 0) (image : Image) (hardware : Hardware) (facts : List Fact) (h : List Entry) (inputs : Setting) (count stamp : ℕ) (slots : List (Slot V)) (home : List ℕ) (room : ℕ) (t : KnownTicket V) (outcome : Outcome)
-    → IsCore chain (feature 11) (plain_opening image hardware facts) h inputs count stamp slots home room
-    → IsAsked chain (plain_opening image hardware facts) h inputs count stamp slots home room t
-    → IsTurn (plain_opening image hardware facts) h (ask_of t) answers
-    → OutcomeIs chain t.memory (after_edits image t.at (edits_of h)) t.name outcome
-    → Answers chain feature (plain_opening image hardware facts) (h ++ Answer t.session t.name t.at outcome ∷ []) inputs count stamp slots home room t.session
-core_answer chain feature image hardware facts h inputs count stamp slots home room t outcome core asked turn told =
-    let o : Opening = plain_opening image hardware facts in
-    let here : t.at ≡ length (edits_of h) = asked.here ∙ core.count_is in
-    let st : State = plain_state (edits_of h) (map (row_of stamp) slots) home [] (Some (ask_of t)) in
-    let reached = reached_back image hardware facts h stamp slots home t (is_reached t slots) here core.stamp_is asked.single refl (turn st asked.kept.state) in
-    let entry : Entry = Answer 1 t.name t.at outcome in
-    let kept = grown chain o h entry _ _ home home [] [] (Some (ask_of t)) None _ asked.kept
-    (step_answer chain image hardware facts h (after_edits image t.at (edits_of h)) stamp slots home (ask_of t) outcome t.memory here core.stamp_is refl reached told)
-    (sym (append-nil (edits_of h))) (outcome_right chain t.memory _ t.name outcome told) in
-    let next = rebuilt chain (feature 11) o h entry inputs count stamp slots slots home home room room [] None core refl kept core.features core.few (turn_free count stamp slots home asked.single)
-    (omega (arith, has_room chain o h inputs count stamp slots home room t asked)) (ran_more (length h) _ home (omega arith) core.ran.0) tt in
-    let S : ℕ → Type 0 = λ s. Answers chain feature o (h ++ Answer s t.name t.at outcome ∷ []) inputs count stamp slots home room s in
-    subst S (sym asked.one) (record {
-      core = next;
-      legal = core_legal chain (feature 11) o _ inputs count stamp slots home room next;
-      free = record { st = _; state = kept.state; free = refl };
-    })
-
--- A start.
-
-pub three_left : (memory known : Bool) (home : List ℕ) (ask : Ask) → IsOne home → ask.memory ≡ false → has_kind bound_kind ask.kinds ≡ false → entries_needed (Some ask) home ≡ 3
-three_left memory known home ask single quiet lacks =
-    ap (λ l. entries_needed (Some ask) l) single.1 ∙ ap (λ b. if b || has_kind bound_kind ask.kinds then 1 else 3) quiet ∙ ap (λ b. if b then 1 else 3) lacks
-
-pub record Starts {V : Type 0} (chain : Chain) (feature : ℕ → Setting → List ℕ → V → Type 0) (o : Opening) (h : List Entry) (inputs : Setting) (count stamp : ℕ) (slots : List (Slot V)) (room : ℕ) (f : KnownFlight V) : Type 0 where
-  pub core : IsCore chain (feature 11) o h inputs count stamp slots [] room
-  pub legal : IsLegal chain o h
-  pub fits : FitsFlight feature o h f
-
-abbrev pub flight_of : {V : Type 0} → KnownTicket V → ℕ → ℕ → ℕ → ℕ → KnownFlight V
-flight_of t session stamp runs spare = record { ticket = record t { session = session; spare = spare }; kind = bound_kind; stamp = stamp; runs = runs }
-
-pub core_start : {V : Type 0} (chain : Chain) (feature : ℕ → Setting → List ℕ → V → Type 0) (image : Image) (hardware : Hardware) (facts : List Fact) (h : List Entry) (inputs : Setting) (count stamp : ℕ) (slots : List (Slot V)) (home : List ℕ) (room : ℕ) (t : KnownTicket V) (runs spare : ℕ)
-    → IsCore chain (feature 11) (plain_opening image hardware facts) h inputs count stamp slots home room
-    → FitsTicket feature (plain_opening image hardware facts) h t
-    → IsTurn (plain_opening image hardware facts) h (ask_of t) (starts bound_kind)
-    → home ≡ runs ∷ []
-    → t.spare ≡ spare + 1
-    → Starts chain feature (plain_opening image hardware facts) (h ++ Start t.session bound_kind t.name stamp ∷ []) inputs count stamp slots room (flight_of t t.session stamp runs spare)
-core_start chain feature image hardware facts h inputs count stamp slots home room t runs spare core fits turn home_is spare_is =
-    let o : Opening = plain_opening image hardware facts in
-    let asked = core_asked chain feature image hardware facts h inputs count stamp slots home room t core fits in
-    let here : t.at ≡ length (edits_of h) = asked.here ∙ core.count_is in
-    let st : State = plain_state (edits_of h) (map (row_of stamp) slots) home [] (Some (ask_of t)) in
-    let missing = missing_back image hardware facts h stamp slots home t (is_reached t slots) here core.stamp_is refl (turn st asked.kept.state) in
-    let quiet : t.memory ≡ false = or_left t.memory _ missing in
-    let unreached = or_right t.memory _ missing in
-    let lacks : has_kind bound_kind (ask_of t).kinds ≡ false = or_left _ _ unreached in
-    let absent : has_value t.name slots ≡ false = or_right (has_kind bound_kind (ask_of t).kinds) _ unreached in
-    let entry : Entry = Start 1 bound_kind t.name stamp in
-    let K : List ℕ → Type 0 = λ l. Kept chain o h (plain_state (edits_of h) (map (row_of stamp) slots) l [] (Some (ask_of t))) in
-    let kept = grown chain o h entry _ _ (runs ∷ []) [] [] (record { session = 1; kind = bound_kind; name = t.name; stamp = stamp; runs = runs } ∷ []) (Some (ask_of t)) (Some (ask_of t)) _ (subst K home_is asked.kept)
-    (step_start image hardware facts (edits_of h) stamp runs slots (ask_of t) here core.stamp_is quiet lacks absent)
-    (sym (append-nil (edits_of h))) tt in
-    let needs = three_left t.memory false home (ask_of t) asked.single quiet lacks in
-    let R : List ℕ → Type 0 = λ l. Each (λ (r : ℕ). r ≤ length h) l in
-    let ran = subst R home_is core.ran.0 in
-    let next = rebuilt chain (feature 11) o h entry inputs count stamp slots slots home [] room room _ (Some (ask_of t)) core refl kept core.features core.few
-    (asked.here, lacks, quiet, absent, (runs, refl)) (omega (arith, asked.within, needs)) tt (omega (arith, ran.0), tt) in
-    let settled : is_settled t ≡ false = ap (λ b. b || has_kind bound_kind (ask_of t).kinds) quiet ∙ lacks in
-    let names : 4 ≤ t.spare = omega (arith, fits.room, ap names_needed settled) in
-    let S : ℕ → Type 0 = λ s. Starts chain feature o (h ++ Start s bound_kind t.name stamp ∷ []) inputs count stamp slots room (flight_of t s stamp runs spare) in
-    subst S (sym asked.one) (record {
-      core = next;
-      legal = core_legal chain (feature 11) o _ inputs count stamp slots [] room next;
-      fits = record {
-        st = _;
-        state = kept.state;
-        is_open = record {
-          ask = refl;
-          inputs = asked.inputs_are ∙ core_inputs_at chain (feature 11) o _ inputs count stamp slots [] room next ∙ ap (λ n. after_edits image n (edits_of (h ++ entry ∷ []))) (sym asked.here);
-          features = fits.is_open.features;
-        };
-        flies = refl;
-        stamp = core_stamp_at chain (feature 11) o _ inputs count stamp slots [] room next ∙ ap (λ n. last_touch all_parts 0 0 (bare image) (take n (edits_of (h ++ entry ∷ [])))) (sym asked.here);
-        room = omega (arith, names, spare_is);
+answer_plain : {V : Type 0} (chain : Chain) (feature : ℕ → Setting → List ℕ → V → Type 0) (b : Basis) (h : List Entry) (d : Stock V) (t : KnownTicket V) (k : Known) (entries : List Entry) (outcome : Outcome)
+    → known b h ≡ k → IsCore chain feature b h d → FitsTicket feature k.opening k.history t
+    → IsTurn k.opening k.history (ask_of t) answers
+    → OutcomeIs chain t.memory (after k.opening.image t.at k.history) t.name outcome
+    → entries ≡ h ++ Answer t.session t.name t.at outcome ∷ []
+    → Goes chain feature b k entries t.session (restock d d.slots d.home d.runner (d.owed - entries_needed (ask_of t)) d.room)
+answer_plain {V} chain feature b h d t k entries outcome view core fits turn told_is entries_are =
+    let o : Opening = opening_of b in
+    let resting = core_asked chain feature b h d t k view core fits in
+    let reached = reached_if (is_reached t d.stamp d.slots) d.runner (turn_back chain feature b h d t k answers view core resting turn) in
+    let O : Known → Type 0 = λ v. OutcomeIs chain t.memory (after v.opening.image t.at v.history) t.name outcome in
+    let own = subst O (sym view) told_is in
+    let new : State = record core.st { asks = with_ask t.session None core.st.asks } in
+    let owed = owed_case feature b core.st d t (length h) d.runner resting core.work in
+    let least = one_needed (t.memory || has_kind bound_kind (ask_of t).kinds) in
+    let needs = needs_with t.session core.st.asks None resting.asked.place in
+    let mine : ask_needs (ask_at t.session core.st.asks) ≡ entries_needed (ask_of t) = ap ask_needs resting.asked.asked in
+    let d' : Stock V = restock d d.slots d.home d.runner (d.owed - entries_needed (ask_of t)) d.room in
+    let stepped = step_answer o core.st (ask_of t) t.session outcome resting.asked.is_open.ask resting.rests
+    (right_case chain t.memory (within_reach o core.st (ask_of t) bound_kind) (after b.image t.at h) t.name outcome (reach_is chain feature b h d t core resting ∙ reached) own) in
+    let leaves : LeavesOthers t.session core.st new = record { asks = λ s other. asked_other s t.session None core.st.asks other; runs = λ s other. refl; more = []; edits = sym (append-nil core.st.edits) } in
+    let work = work_on o core.st new d d' (length h) (length h + 1) d.runner refl refl (omega arith) (omega (arith, needs, mine, owed))
+    (λ s run a out own at. let other : s ≢ t.session = λ same. (let there = sym (own_same t.session run (own ∙ same)) ∙ ap (own_run t.session) (sym out) ∙ resting.rests in cc) in asked_other s t.session None core.st.asks other ∙ at)
+    (λ n m absent current. absent current) core.work in
+    let moves = moved chain feature b h d k entries (Answer t.session t.name t.at outcome) new d.slots d.home d.runner (d.owed - entries_needed (ask_of t)) d.room core view entries_are
+    stepped (outcome_right chain t.memory (after b.image t.at h) t.name outcome own) refl refl leaves core.rows core.home (length-with_ask t.session None core.st.asks ∙ core.places)
+    (pinned_with d.count t.session core.st.asks None core.pinned tt) core.features core.few work (omega (arith, core.within, owed, least)) in
+    record {
+      core = moves.core;
+      legal = moves.legal;
+      others = moves.others;
+      free = record {
+        st = new;
+        state = moves.state;
+        free = and_both (is_session o t.session) (is_none (ask_at t.session new.asks)) resting.asked.known_ (ap (λ (a : Option Ask). is_none a) (asked_same t.session None core.st.asks resting.asked.place));
       };
-    })
+    }
+
+-- The same with the number of entries that the code found.
+pub answer_all : {V : Type 0} (chain : Chain) (feature : ℕ → Setting → List ℕ → V → Type 0) (b : Basis) (h : List Entry) (d : Stock V) (t : KnownTicket V) (k : Known) (entries : List Entry) (outcome : Outcome) (needed : ℕ)
+    → known b h ≡ k → IsCore chain feature b h d → FitsTicket feature k.opening k.history t
+    → IsTurn k.opening k.history (ask_of t) answers
+    → OutcomeIs chain t.memory (after k.opening.image t.at k.history) t.name outcome
+    → entries ≡ h ++ Answer t.session t.name t.at outcome ∷ []
+    → needed ≡ entries_needed (ask_of t)
+    → Goes chain feature b k entries t.session (restock d d.slots d.home d.runner (d.owed - needed) d.room)
+answer_all {V} chain feature b h d t k entries outcome needed view core fits turn told_is entries_are needed_is =
+    let N : ℕ → Type 0 = λ n. Goes chain feature b k entries t.session (restock d d.slots d.home d.runner (d.owed - n) d.room) in
+    subst N (sym needed_is) (answer_plain chain feature b h d t k entries outcome view core fits turn told_is entries_are)
+
+pub answer_entries : {V : Type 0} (entries h : List Entry) (session at : ℕ) (name : List ℕ) (outcome : Outcome) (t left : KnownTicket V)
+    → entries ≡ h ++ Answer session name at outcome ∷ [] → session ≡ left.session → at ≡ left.at → name ≡ t.name → t ≡ record left { spare = left.spare + 1 }
+    → entries ≡ h ++ Answer t.session t.name t.at outcome ∷ []
+answer_entries entries h session at name outcome t left is session_is at_is name_is left_is =
+    is
+    ∙ ap (λ s. h ++ Answer s name at outcome ∷ []) (session_is ∙ sym (ap (λ (x : KnownTicket _). x.session) left_is))
+    ∙ ap (λ n. h ++ Answer t.session n at outcome ∷ []) name_is
+    ∙ ap (λ a. h ++ Answer t.session t.name a outcome ∷ []) (at_is ∙ sym (ap (λ (x : KnownTicket _). x.at) left_is))
+
+pub not_reached : {V : Type 0} (memory stored : Bool) (had : List (ℕ × V)) → memory ≡ false → had ≡ [] → stored ≡ false → (memory || (has_kind bound_kind (map (λ x. x.0) had) || stored)) ≡ false
+not_reached memory stored had quiet none absent =
+    ap (λ m. m || (has_kind bound_kind (map (λ x. x.0) had) || stored)) quiet ∙ ap (λ (hs : List (ℕ × _)). has_kind bound_kind (map (λ x. x.0) hs) || stored) none ∙ absent
+
+pub now_reached : (memory held stored : Bool) → stored ≡ true → (memory || (held || stored)) ≡ true
+now_reached true held stored is = refl
+now_reached false true stored is = refl
+now_reached false false stored is = is

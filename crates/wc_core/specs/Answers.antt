@@ -1,18 +1,18 @@
 -- What the calls of a core answer.
-use Rattle.std.specs.Prelude.{ℕ, ◌+◌, true, false, List, [], ◌∷◌, ◌++◌, length, Option, None, Some, ◌≡◌, ◌≢◌, is_none}
+use Rattle.std.specs.Prelude.{ℕ, ◌+◌, true, false, List, [], ◌∷◌, ◌++◌, length, Option, None, Some, ◌≡◌, ◌≢◌, ◌≤◌, ◌==◌, Bool, is_none}
 use Rattle.wc_model.specs.declared.entries.Entry.{Entry}
 use Rattle.wc_model.specs.declared.entries.Entry.TheVariants.{Edit as EditEntry, NoFact, Pin, Start, Finish, Answer, List as ListEntry}
 use Rattle.wc_model.specs.declared.entries.End.{End}
-use Rattle.wc_model.specs.declared.entries.End.TheVariants.{Memory as MemoryEnd}
+use Rattle.wc_model.specs.declared.entries.End.TheVariants.{Kept as KeptEnd, Dropped as DroppedEnd, Memory as MemoryEnd}
 use Rattle.wc_model.specs.declared.entries.Asked.{Asked}
 use Rattle.wc_model.specs.declared.entries.Listing.{Listing}
 use Rattle.wc_model.specs.declared.inputs.Edit.{Edit}
 use Rattle.wc_model.specs.declared.inputs.Edit.TheVariants.{Drop}
 use Rattle.wc_model.specs.Edits.{Setting, after, edits_of}
-use Rattle.wc_model.specs.History.{Opening, State, Chain, state_after, is_free, can_edit, is_live, home_of, bound_kind}
+use Rattle.wc_model.specs.History.{Opening, State, Chain, state_after, is_free, can_edit, is_live, home_of, stamp_at, count_of, bound_kind}
 use Rattle.wc_core.specs.declared.answers.Edited.{Edited}
 use Rattle.wc_core.specs.declared.answers.Edited.TheVariants.{Done, NoFact as NotLive}
-use Rattle.wc_core.specs.Fits.{FitsTicket, FitsFlight}
+use Rattle.wc_core.specs.Fits.{FitsTicket, FitsFlight, FitsLanded}
 use Rattle.wc_core.specs.Turns.{IsTurn, OutcomeIs, answers, starts, waits}
 use Rattle.wc_core.specs.Views.{Known, KnownTicket, KnownFlight, KnownLanded, SameAsk, ask_of}
 
@@ -21,6 +21,17 @@ pub record LeavesFree (o : Opening) (history : List Entry) (session : ℕ) : Typ
   pub st : State
   pub state : state_after o history ≡ Some st
   pub free : is_free o st session ≡ true
+
+-- No session has an open ask.
+abbrev pub LeavesAllFree : Opening → List Entry → Type 0
+LeavesAllFree o history = (session : ℕ) → 1 ≤ session → session ≤ o.sessions → LeavesFree o history session
+
+-- What other sessions hold goes on fitting after an entry of a session, and who was free stays free.
+pub record KeepsOthers {V : Type 0} (feature : ℕ → Setting → List ℕ → V → Type 0) (old new : Known) (session : ℕ) : Type 0 where
+  pub free : (s : ℕ) → s ≢ session → LeavesFree old.opening old.history s → LeavesFree new.opening new.history s
+  pub tickets : (t : KnownTicket V) → t.session ≢ session → FitsTicket feature old.opening old.history t → FitsTicket feature new.opening new.history t
+  pub flights : (f : KnownFlight V) → f.ticket.session ≢ session → FitsFlight feature old.opening old.history f → FitsFlight feature new.opening new.history f
+  pub landed : (l : KnownLanded V) → l.ticket.session ≢ session → FitsLanded feature old.opening old.history l → FitsLanded feature new.opening new.history l
 
 -- The number of accepted edits, and the inputs after all of them.
 abbrev pub edit_count : Known → ℕ
@@ -85,14 +96,19 @@ pub record IsBusy {V : Type 0} (old new : Known) (t back : KnownTicket V) (sessi
   pub back_is : back ≡ t
   pub same : new ≡ old
 
-abbrev pub end_of : {V : Type 0} → Option V → End → Type 0
-end_of None end = end ≡ MemoryEnd
-end_of (Some _) end = end ≢ MemoryEnd
+-- A value is kept exactly where no edit since the ask's count touched its closure.
+abbrev pub end_of : {V : Type 0} → Option V → Bool → End
+end_of None current = MemoryEnd
+end_of (Some _) true = KeptEnd
+end_of (Some _) false = DroppedEnd
+
+abbrev pub is_current : Opening → State → ℕ → ℕ → Bool
+is_current o st kind stamp = stamp == stamp_at o st kind (count_of st)
 
 pub record IsGiven {V : Type 0} (feature : ℕ → Setting → List ℕ → V → Type 0) (old new : Known) (l : KnownLanded V) (t : KnownTicket V) : Type 0 where
   pub same : SameAsk l.ticket t
   pub end : End
-  pub ends : end_of l.gave end
+  pub ends : (st : State) → state_after old.opening old.history ≡ Some st → end ≡ end_of l.gave (is_current old.opening st l.kind l.stamp)
   pub memory : t.memory ≡ is_none l.gave
   pub entry : adds old new (Finish l.ticket.session l.kind l.ticket.name l.stamp end)
   pub fits : FitsTicket feature new.opening new.history t

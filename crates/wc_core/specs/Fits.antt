@@ -11,10 +11,11 @@ abbrev pub EachFeature : {V : Type 0} → (ℕ → V → Type 0) → List (ℕ �
 EachFeature feature [] = Unit {0}
 EachFeature feature (h ∷ hs) = feature h.0 h.1 × EachFeature feature hs
 
--- The replay has the ticket's ask open, and the ticket holds its inputs and its values.
+-- The replay has the ticket's ask open, and the ticket holds its inputs, its stamp and its values.
 pub record IsOpen {V : Type 0} (feature : ℕ → Setting → List ℕ → V → Type 0) (o : Opening) (st : State) (t : KnownTicket V) : Type 0 where
   pub ask : open_ask o st t.session ≡ Some (ask_of t)
   pub inputs : t.inputs ≡ inputs_at o st t.at
+  pub stamp_is : t.stamp ≡ stamp_at o st bound_kind t.at
   pub features : EachFeature (λ k v. feature k t.inputs t.name v) t.had
 
 -- The names that an ask may still need a copy of: one for a row of the store, and one for each entry to come.

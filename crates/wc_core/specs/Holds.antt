@@ -1,19 +1,19 @@
--- What a core keeps true while it has one kind, one work and one session.
-use Rattle.std.specs.Prelude.{ℕ, ◌+◌, ◌≤◌, Bool, true, false, ◌||◌, ◌&&◌, is_some, if◌then◌else◌, List, [], ◌∷◌, ◌++◌, length, map, take, Option, None, Some, ◌≡◌, IfSome}
+-- What a core keeps true while it has one kind and one work.
+use Rattle.std.specs.Prelude.{ℕ, ◌+◌, ◌≤◌, Bool, true, false, ◌||◌, ◌&&◌, ◌==◌, is_some, if◌then◌else◌, List, [], ◌∷◌, ◌++◌, length, map, Option, None, Some, ◌≡◌, IfSome}
 use Rattle.std.specs.Global.{Global}
 use Rattle.std.specs.declared.sync.Arc.{Arc}
 use Rattle.wc_model.specs.declared.elf_image.Image.{Image}
 use Rattle.wc_model.specs.declared.entries.Entry.{Entry}
 use Rattle.wc_model.specs.declared.flow_facts.Fact.{Fact}
 use Rattle.wc_model.specs.declared.flow_facts.Fact.TheVariants.{Checksum}
-use Rattle.wc_model.specs.declared.inputs.Edit.{Edit}
 use Rattle.wc_model.specs.declared.kinds.Describe.{Describe}
 use Rattle.wc_model.specs.declared.kinds.Part.{Part}
 use Rattle.wc_model.specs.declared.kinds.Part.TheVariants.{Steer, Loops, Limits, Cache, Cycles}
 use Rattle.wc_model.specs.declared.machine.Hardware.{Hardware}
 use Rattle.wc_model.specs.Closures.{has_kind, last_touch}
-use Rattle.wc_model.specs.Edits.{Setting, bare, all_edited, edits_of}
-use Rattle.wc_model.specs.History.{Opening, State, Row, Run, Ask, Chain, EachRight, state_after, opened, opening_entries, bound_kind, same_name, with_room}
+use Rattle.wc_model.specs.Edits.{Setting, bare, all_edited}
+use Rattle.wc_model.specs.History.{Opening, State, Row, Run, Ask, Chain, is_session, ask_at, bound_kind, same_name, with_room}
+use Rattle.wc_model.proofs.Replays.{Kept}
 use Rattle.wc_core.specs.declared.store.Slot.{Slot}
 use Rattle.wc_core.specs.Features.{Each}
 use Rattle.wc_core.specs.Views.{KnownTicket, value_of}
@@ -25,9 +25,23 @@ all_parts = Steer ∷ Loops ∷ Limits ∷ Cache ∷ Cycles ∷ []
 abbrev pub bound_alone : Describe
 bound_alone = record { provides = bound_kind; requires_ = []; reads = all_parts }
 
+-- What a core with that one kind and one work is opened with.
+pub record Basis : Type 0 where
+  pub image : Image
+  pub hardware : Hardware
+  pub facts : List Fact
+  pub sessions : ℕ
+
+abbrev pub opening_of : Basis → Opening
+opening_of b =
+    record { image = b.image; kinds = bound_alone ∷ []; works = (bound_kind, 1) ∷ []; hardware = b.hardware; facts = b.facts; sessions = b.sessions }
+
+abbrev pub shared_opening : Image → Hardware → List Fact → ℕ → Opening
+shared_opening image hardware facts sessions =
+    opening_of (record { image = image; hardware = hardware; facts = facts; sessions = sessions })
+
 abbrev pub plain_opening : Image → Hardware → List Fact → Opening
-plain_opening image hardware facts =
-    record { image = image; kinds = bound_alone ∷ []; works = (bound_kind, 1) ∷ []; hardware = hardware; facts = facts; sessions = 1 }
+plain_opening image hardware facts = shared_opening image hardware facts 1
 
 -- A checksum alone says nothing of what the program may do.
 abbrev pub is_plain_fact : Fact → Bool
@@ -50,10 +64,6 @@ keys_of stamp (Some _) = (bound_kind, stamp) ∷ []
 
 abbrev pub row_of : {V : Type 0} → ℕ → Slot V → Row
 row_of stamp slot = record { name = slot.name; keys = keys_of stamp (value_of slot.value) }
-
-abbrev pub plain_state : List Edit → List Row → List ℕ → List Run → Option Ask → State
-plain_state edits rows home out ask =
-    record { edits = edits; rows = rows; home = (bound_kind, home) ∷ []; out = out; asks = None ∷ ask ∷ [] }
 
 -- What an edit leaves of the store and of the stamp.
 abbrev pub emptied : {V : Type 0} → Slot V → Slot V
@@ -102,41 +112,77 @@ abbrev pub value_at : {V : Type 0} → List ℕ → List (Slot V) → Option V
 value_at name [] = None
 value_at name (slot ∷ slots) = if same_name slot.name name then first_of (value_of slot.value) (value_at name slots) else value_at name slots
 
--- Whether an ask can answer: a run of it found no memory, it has the bound, or the bound is stored.
-abbrev pub is_reached : {V : Type 0} → KnownTicket V → List (Slot V) → Bool
-is_reached t slots = t.memory || (has_kind bound_kind (map (λ h. h.0) t.had) || has_value t.name slots)
+-- Whether an ask can answer: a run of it found no memory, it has the bound, or the bound is stored under its own stamp.
+abbrev pub is_reached : {V : Type 0} → KnownTicket V → ℕ → List (Slot V) → Bool
+is_reached t stamp slots = t.memory || (has_kind bound_kind (map (λ h. h.0) t.had) || (t.stamp == stamp && has_value t.name slots))
 
 abbrev pub AreFeatures : {V : Type 0} → (List ℕ → V → Type 0) → List (Slot V) → Type 0
 AreFeatures feature [] = Unit {0}
 AreFeatures feature (slot ∷ slots) = IfSome (value_of slot.value) (feature slot.name) × AreFeatures feature slots
 
--- The entries that an open ask may still add.
-abbrev pub entries_needed : Option Ask → List ℕ → ℕ
-entries_needed None home = 0
-entries_needed (Some ask) [] = 2
-entries_needed (Some ask) (_ ∷ _) = if ask.memory || has_kind bound_kind ask.kinds then 1 else 3
+-- The entries that an open ask may still add: a start, a finish and its answer, or its answer alone.
+abbrev pub entries_needed : Ask → ℕ
+entries_needed ask = if ask.memory || has_kind bound_kind ask.kinds then 1 else 3
 
--- Either the work is at home and no run is out, or the session's ask has its run out.
-abbrev pub IsTurnOf : {V : Type 0} → ℕ → ℕ → List (Slot V) → Option Ask → List ℕ → List Run → Type 0
-IsTurnOf count stamp slots None (runs ∷ []) out = out ≡ []
-IsTurnOf count stamp slots (Some ask) (runs ∷ []) out = (out ≡ []) × (ask.at ≡ count)
-IsTurnOf count stamp slots (Some ask) [] out =
-    (ask.at ≡ count) × (has_kind bound_kind ask.kinds ≡ false) × (ask.memory ≡ false) × (has_value ask.name slots ≡ false)
-    × ((runs : ℕ) × (out ≡ record { session = 1; kind = bound_kind; name = ask.name; stamp = stamp; runs = runs } ∷ []))
-IsTurnOf count stamp slots _ _ out = ⊥
+abbrev pub ask_needs : Option Ask → ℕ
+ask_needs None = 0
+ask_needs (Some ask) = entries_needed ask
 
-pub record IsCore {V : Type 0} (chain : Chain) (feature : Setting → List ℕ → V → Type 0) (o : Opening) (history : List Entry) (inputs : Setting) (count stamp : ℕ) (slots : List (Slot V)) (home : List ℕ) (room : ℕ) : Type 0 where
-  pub ask : Option Ask
-  pub out : List Run
-  pub begins : take (opened o) history ≡ opening_entries o
-  pub state : state_after o history ≡ Some (plain_state (edits_of history) (map (row_of stamp) slots) home out ask)
-  pub right : EachRight chain o.image [] history
-  pub inputs_are : inputs ≡ all_edited 0 (bare o.image) (edits_of history)
-  pub count_is : count ≡ length (edits_of history)
-  pub stamp_is : stamp ≡ last_touch all_parts 0 0 (bare o.image) (edits_of history)
-  pub features : AreFeatures (feature inputs) slots
-  pub few : length slots ≤ 32
-  pub turn : IsTurnOf count stamp slots ask home out
-  pub within : length history + entries_needed ask home ≤ room
-  pub counted : count ≤ length history
-  pub ran : Each (λ (runs : ℕ). runs ≤ length history) home × Each (λ (run : Run). run.runs ≤ length history) out
+abbrev pub asks_need : List (Option Ask) → ℕ
+asks_need [] = 0
+asks_need (ask ∷ asks) = ask_needs ask + asks_need asks
+
+-- What a core holds beside its history. `home`: how often the work at home has run. `runner`: the session of the run
+-- that is out. `owed`: how many entries the open asks may still add. `room`: how many entries the history has places for.
+pub record Stock (V : Type 0) : Type 0 where
+  pub inputs : Setting
+  pub count : ℕ
+  pub stamp : ℕ
+  pub slots : List (Slot V)
+  pub home : List ℕ
+  pub runner : Option ℕ
+  pub owed : ℕ
+  pub room : ℕ
+
+-- The one work is at home.
+pub record IsAtHome {V : Type 0} (st : State) (d : Stock V) (long : ℕ) : Type 0 where
+  pub out_is : st.out ≡ []
+  pub runs : ℕ
+  pub home_is : d.home ≡ runs ∷ []
+  pub few : runs ≤ long
+  pub owes : d.owed ≡ asks_need st.asks
+
+-- The one work is out for an open ask, which has neither a value nor want of memory.
+pub record IsAway {V : Type 0} (o : Opening) (st : State) (d : Stock V) (long session : ℕ) : Type 0 where
+  pub run : Run
+  pub out_is : st.out ≡ run ∷ []
+  pub home_is : d.home ≡ []
+  pub session_is : run.session ≡ session
+  pub kind_is : run.kind ≡ bound_kind
+  pub known : is_session o session ≡ true
+  pub ask : Ask
+  pub asked : ask_at session st.asks ≡ Some ask
+  pub needs : entries_needed ask ≡ 3
+  pub absent : run.stamp ≡ d.stamp → has_value run.name d.slots ≡ false
+  pub few : run.runs ≤ long
+  pub owes : d.owed + 1 ≡ asks_need st.asks
+
+abbrev pub WorkIs : {V : Type 0} → Opening → State → Stock V → ℕ → Option ℕ → Type 0
+WorkIs o st d long None = IsAtHome st d long
+WorkIs o st d long (Some session) = IsAway o st d long session
+
+pub record IsCore {V : Type 0} (chain : Chain) (feature : ℕ → Setting → List ℕ → V → Type 0) (b : Basis) (history : List Entry) (d : Stock V) : Type 0 where
+  pub st : State
+  pub kept : Kept chain (opening_of b) history st
+  pub rows : st.rows ≡ map (row_of d.stamp) d.slots
+  pub home : st.home ≡ (bound_kind, d.home) ∷ []
+  pub places : length st.asks ≡ b.sessions + 1
+  pub pinned : Each (λ (ask : Option Ask). IfSome ask (λ a. a.at ≤ d.count)) st.asks
+  pub inputs_are : d.inputs ≡ all_edited 0 (bare b.image) st.edits
+  pub count_is : d.count ≡ length st.edits
+  pub stamp_is : d.stamp ≡ last_touch all_parts 0 0 (bare b.image) st.edits
+  pub features : AreFeatures (feature bound_kind d.inputs) d.slots
+  pub few : length d.slots ≤ 32
+  pub work : WorkIs (opening_of b) st d (length history) d.runner
+  pub within : length history + d.owed ≤ d.room
+  pub counted : d.count ≤ length history

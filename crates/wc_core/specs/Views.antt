@@ -10,13 +10,14 @@ pub record Known : Type 0 where
   pub opening : Opening
   pub history : List Entry
 
--- `had`: the kinds that the ask has, with their values. `memory`: whether a run of the ask found no memory. `spare`:
+-- `stamp`: that of the bound at its count. `had`: the kinds that the ask has, with their values. `memory`: whether a run of the ask found no memory. `spare`:
 -- how many copies of the name are at hand.
 pub record KnownTicket (V : Type 0) : Type 0 where
   pub session : ℕ
   pub name : List ℕ
   pub at : ℕ
   pub inputs : Setting
+  pub stamp : ℕ
   pub had : List (ℕ × V)
   pub memory : Bool
   pub spare : ℕ

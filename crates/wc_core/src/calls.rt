@@ -1,7 +1,7 @@
 ghost use Rattle.std.specs.Prelude.{ℕ, ◌≡◌, ◌∷◌, [], ◌++◌, ◌+◌, true, false, IfOk, MatchResult, MatchOption};
 ghost use Rattle.wc_model.specs.Edits.{setting_of};
 ghost use Rattle.wc_model.specs.History.{IsLegal, can_edit, is_live};
-ghost use Rattle.wc_core.specs.Answers.{LeavesFree, EditIs, IsAccepted, IsRefused, IsListed, inputs_now, edit_count};
+ghost use Rattle.wc_core.specs.Answers.{LeavesFree, KeepsOthers, EditIs, IsAccepted, IsRefused, IsListed, inputs_now, edit_count};
 ghost use Rattle.wc_core.specs.Holds.{stamp_after};
 
 use crate::answers::Edited;
@@ -32,9 +32,10 @@ impl<W: Work> Core<W> {
         ensures opening { self.new.opening ≡ self.old.opening }
         ensures legal { IsLegal W.chain self.new.opening self.new.history }
         ensures free { LeavesFree self.new.opening self.new.history session }
+        ensures others { KeepsOthers W.is_feature self.old self.new session }
         ensures answer { MatchResult result (λ at. (at ≡ edit_count self.old) × (self.new.history ≡ self.old.history ++ Entry.NoFact session number at ∷ [])) (λ _. self.new ≡ self.old) }
     {
-        self.history.reserve(1)?;
+        self.history.reserve(self.owed + 1)?;
         self.history.push_reserved(Entry::NoFact {
             session,
             number,
@@ -49,10 +50,11 @@ impl<W: Work> Core<W> {
         ensures opening { self.new.opening ≡ self.old.opening }
         ensures legal { IsLegal W.chain self.new.opening self.new.history }
         ensures free { LeavesFree self.new.opening self.new.history session }
+        ensures others { KeepsOthers W.is_feature self.old self.new session }
         ensures answer { MatchResult result (λ count. (count ≡ edit_count self.old + 1) × (self.new.history ≡ self.old.history ++ Entry.Edit session count edit ∷ [])) (λ _. self.new ≡ self.old) }
     {
         let alloc = *self.history.allocator();
-        self.history.reserve(1)?;
+        self.history.reserve(self.owed + 1)?;
         let count = self.count + 1;
         let inputs = edited_inputs(alloc, &self.inputs, count, &edit)?;
         let inputs = Arc::new(alloc, inputs)?;
@@ -75,6 +77,7 @@ impl<W: Work> Core<W> {
         ensures opening { self.new.opening ≡ self.old.opening }
         ensures legal { IsLegal W.chain self.new.opening self.new.history }
         ensures free { LeavesFree self.new.opening self.new.history session }
+        ensures others { KeepsOthers W.is_feature self.old self.new session }
         ensures answer { MatchResult result (EditIs self.old self.new session edit) (λ _. self.new ≡ self.old) }
     {
         match self.missing(&edit) {
@@ -89,10 +92,11 @@ impl<W: Work> Core<W> {
         ensures opening { self.new.opening ≡ self.old.opening }
         ensures legal { IsLegal W.chain self.new.opening self.new.history }
         ensures free { LeavesFree self.new.opening self.new.history session }
+        ensures others { KeepsOthers W.is_feature self.old self.new session }
         ensures answer { MatchResult result (IsListed self.old self.new session) (λ _. self.new ≡ self.old) }
     {
         let facts = copy_facts(&self.inputs.facts)?;
-        self.history.reserve(1)?;
+        self.history.reserve(self.owed + 1)?;
         self.history.push_reserved(Entry::List {
             session,
             at: self.count,

@@ -1,11 +1,11 @@
-ghost use Rattle.std.specs.Prelude.{ℕ, ◌≡◌, ◌∷◌, [], ◌+◌, ◌<◌, ◌^◌, IfOk, length, map, if◌then◌else◌};
+ghost use Rattle.std.specs.Prelude.{ℕ, ◌≡◌, ◌∷◌, [], ◌+◌, ◌<◌, ◌≤◌, ◌^◌, IfOk, length, map, if◌then◌else◌};
 ghost use Rattle.wc_model.specs.declared.elf_image.Image.{Image};
 ghost use Rattle.wc_model.specs.Closures.{touches_any};
 ghost use Rattle.wc_model.specs.Edits.{bare, same_cycles};
 ghost use Rattle.wc_model.specs.History.{IsLegal, opening_entries, fact_entries};
 ghost use Rattle.wc_core.specs.Answers.{LeavesFree, RunsNothing, AreRuns};
 ghost use Rattle.wc_core.specs.Features.{Each};
-ghost use Rattle.wc_core.specs.Holds.{all_parts, bound_alone, numbered_from, plain_opening, stamp_from};
+ghost use Rattle.wc_core.specs.Holds.{all_parts, bound_alone, numbered_from, shared_opening, stamp_from};
 
 use crate::changes::{copy_fact, matters};
 use crate::shared::Core;
@@ -107,7 +107,7 @@ fn opening_stamp(first: u64, facts: &[Fact]) -> u64
 }
 
 impl<W: Work> Core<W> {
-    /// A core whose history has the opening edits. It has one work, of the kind of the bound, and one session.
+    /// A core whose history has the opening edits. It has one work, of the kind of the bound, and up to 64 sessions.
     pub fn new(
         alloc: Global,
         image: Arc<Image>,
@@ -122,11 +122,11 @@ impl<W: Work> Core<W> {
         requires works { map W.kind_of works.items ≡ 11 ∷ [] }
         requires runs { map W.runs_of works.items ≡ 0 ∷ [] }
         requires ready { Each W.may_run works.items }
-        requires sessions { sessions ≡ 1 }
-        ensures opening { IfOk result (λ c. c.opening ≡ plain_opening image.value hardware facts.items) }
+        requires sessions { (1 ≤ sessions) × (sessions ≤ 64) }
+        ensures opening { IfOk result (λ c. c.opening ≡ shared_opening image.value hardware facts.items sessions) }
         ensures history { IfOk result (λ c. c.history ≡ opening_entries c.opening) }
         ensures legal { IfOk result (λ c. IsLegal W.chain c.opening c.history) }
-        ensures free { IfOk result (λ c. LeavesFree c.opening c.history 1) }
+        ensures free { IfOk result (λ c. (session : ℕ) → 1 ≤ session → session ≤ sessions → LeavesFree c.opening c.history session) }
     {
         let history = opening_history(alloc, &hardware, facts.as_slice())?;
         let live = numbered(alloc, facts.as_slice())?;
@@ -142,11 +142,14 @@ impl<W: Work> Core<W> {
         Ok(Core {
             hardware,
             facts,
+            sessions,
             inputs,
             count,
             stamp,
             works,
             slots,
+            runner: None,
+            owed: 0,
             history,
         })
     }
@@ -162,11 +165,14 @@ impl<W: Work> Core<W> {
         let Core {
             hardware: _,
             facts: _,
+            sessions: _,
             inputs: _,
             count: _,
             stamp: _,
             works,
             slots: _,
+            runner: _,
+            owed: _,
             history,
         } = self;
         (history, works)

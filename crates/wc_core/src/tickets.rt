@@ -10,13 +10,14 @@ use std::marker::Model;
 use std::sync::Arc;
 use wc_model::{Asked, Inputs, Text};
 
-/// An open ask in its session's hands: the inputs that it was pinned to, and the values that it took.
+/// An open ask in its session's hands: the inputs and the stamp that it was pinned to, and the values that it took.
 #[derive(Drop)]
 pub struct Ticket<V> {
     pub(crate) session: u32,
     pub(crate) name: Arc<Text>,
     pub(crate) at: u64,
     pub(crate) inputs: Arc<Inputs>,
+    pub(crate) stamp: u64,
     pub(crate) had: Option<Arc<V>>,
     pub(crate) memory: bool,
     pub(crate) names: Vec<Text>,
@@ -30,7 +31,7 @@ impl<V> Model for Ticket<V> {
 
     ghost Value = { KnownTicket V };
 
-    ghost view = { λ t. record { session = t.session; name = t.name.value; at = t.at; inputs = setting_of t.inputs.value; had = held t.had; memory = t.memory; spare = length t.names.items } };
+    ghost view = { λ t. record { session = t.session; name = t.name.value; at = t.at; inputs = setting_of t.inputs.value; stamp = t.stamp; had = held t.had; memory = t.memory; spare = length t.names.items } };
 
     ghost invariant = { λ t. Each (λ n. n ≡ t.name.value) t.names.items };
 }
@@ -115,6 +116,7 @@ impl<W: Work> Flight<W> {
             name,
             at,
             inputs,
+            stamp: own,
             had,
             memory,
             names,
@@ -132,6 +134,7 @@ impl<W: Work> Flight<W> {
             name: job.name,
             at,
             inputs: job.inputs,
+            stamp: own,
             had,
             memory,
             names,

@@ -1,9 +1,11 @@
 pub mod Agreeing
+pub mod Current
 pub mod Greatest
 pub mod Leaving
 pub mod Orders
 pub mod Places
 pub mod Replays
 pub mod Searching
+pub mod Sharing
 pub mod Starting
 pub mod Untouched

@@ -3,7 +3,7 @@ use Rattle.wc_model.specs.declared.values.Outcome.{Outcome}
 use Rattle.wc_core.specs.Features.{Tells}
 use Rattle.wc_core.specs.Holds.{value_at, has_value}
 use Rattle.wc_core.specs.Views.{KnownTicket}
-use Rattle.wc_core.proofs.Departures.{told}
+use Rattle.wc_core.proofs.Turning.{told}
 use Rattle.wc_core.proofs.Rows.{value_there, value_feature}
 use Rattle.wc_core.proofs.asks.stored_outcome.Goals as goal
 
