@@ -1,9 +1,8 @@
 -- How a line is answered, and whether the session goes on.
-use Rattle.std.proofs.Common.{◌≡◌, ◌≢◌, ℕ, true, List, [], ◌∷◌, ◌++◌, codes, Option, None, Some, IfSome, Err, refl, sym, ap, ◌∙◌, subst, append-nil, arith, inl, inr}
+use Rattle.std.proofs.Common.{◌≡◌, ◌≢◌, ℕ, true, List, [], ◌∷◌, ◌++◌, codes, Option, None, Some, IfSome, Err, refl, sym, ap, ◌∙◌, subst, append-nil, arith, ◌⊎◌, inl, inr}
 use Rattle.std.specs.List.{list_all}
 use Rattle.wc_base.specs.declared.faults.Fault.{Fault}
-use Rattle.wc_base.specs.declared.faults.Fault.TheVariants.{BadCommand, LongLine, TooMuch, Unbuilt}
-use Rattle.wc_base.specs.declared.faults.UnbuiltWord.TheVariants as word
+use Rattle.wc_base.specs.declared.faults.Fault.TheVariants.{BadCommand, LongLine, TooMuch}
 use Rattle.wc_base.specs.declared.troubles.Trouble.{Trouble}
 use Rattle.wc_base.specs.declared.troubles.Trouble.TheVariants.{Fault as Refused, Memory}
 use Rattle.wc_io.specs.Lines.{Script, Gives, LineResult, given, too_long, too_much}
@@ -14,7 +13,7 @@ use Rattle.wc_model.specs.declared.entries.Ended.{Ended}
 use Rattle.wc_model.specs.declared.entries.Ended.TheVariants as ended
 use Rattle.wc_model.specs.declared.entries.Entry.{Entry}
 use Rattle.wc_session.specs.Answered.{follows, is_long, is_much, lacks, refuses}
-use Rattle.wc_session.specs.Commands.{IsCommand, IsFaulty, Reads, is_blank, quits}
+use Rattle.wc_session.specs.Commands.{IsCommand, IsFaulty, Reads, Says, adds, is_blank, quits, sets}
 use Rattle.wc_session.specs.Parts.{AnswersLine, EndsAtCommand, EndsAtLine, Follows, IsPart, Sends, reply_to_trouble}
 use Rattle.wc_session.specs.declared.commands.Command.{Command}
 use Rattle.wc_session.specs.declared.commands.Command.TheVariants as command
@@ -33,44 +32,43 @@ starts_as_quit : (line other : List ℕ) → first other ≢ 113 → line ≡ ot
 unfolding first
 starts_as_quit line other not is quit = not (ap first (sym is ∙ quit))
 
-quit_alone : (line : List ℕ) (c : Command) → IsCommand line c → line ≡ codes "quit" → c ≡ command.Quit
+quit_alone : (image : Image) (line : List ℕ) (c : Command) → IsCommand image line c → line ≡ codes "quit" → c ≡ command.Quit
 unfolding first
-quit_alone line command.Quit is quit = refl
-quit_alone line command.Blank is quit = let no : list_all is_blank (codes "quit") ≡ true = subst (λ (l : List ℕ). list_all is_blank l ≡ true) quit is in absurd (cc)
-quit_alone line command.List is quit = absurd (starts_as_quit line _ (λ e. absurd (omega (arith, e))) is quit)
-quit_alone line (command.Bound name) is quit = absurd (starts_as_quit line _ (λ e. absurd (omega (arith, e))) is.0 quit)
-quit_alone line (command.Hardware hardware) is quit = absurd (starts_as_quit line _ (λ e. absurd (omega (arith, e))) is.1 quit)
-quit_alone line (command.Add fact) is quit = absurd is
-quit_alone line (command.Drop number) is quit = absurd is
+quit_alone image line command.Quit is quit = refl
+quit_alone image line command.Blank is quit = let no : list_all is_blank (codes "quit") ≡ true = subst (λ (l : List ℕ). list_all is_blank l ≡ true) quit is in absurd (cc)
+quit_alone image line command.List is quit = absurd (starts_as_quit line _ (λ e. absurd (omega (arith, e))) is quit)
+quit_alone image line (command.Bound name) is quit = absurd (starts_as_quit line _ (λ e. absurd (omega (arith, e))) is.0 quit)
+quit_alone image line (command.Hardware hardware) is quit = absurd (starts_as_quit line _ (λ e. absurd (omega (arith, e))) is.1 quit)
+quit_alone image line (command.Add fact) is quit = absurd (starts_as_quit line _ (λ e. absurd (omega (arith, e))) is.1 quit)
+quit_alone image line (command.Drop number) is quit = absurd (starts_as_quit line _ (λ e. absurd (omega (arith, e))) is.1 quit)
 
-quit_accepted : (line : List ℕ) (fault : Fault) → IsFaulty line fault → line ≢ codes "quit"
+refused_on : {A B : List ℕ → Type 0} (line : List ℕ) → ((text : List ℕ) × Says line (adds text) × A text) ⊎ ((json : List ℕ) × Says line (sets json) × B json) → line ≢ codes "quit"
 unfolding first
-quit_accepted line BadCommand is quit = is.0 quits quit
-quit_accepted line (Unbuilt word.Facts) (inl is) quit = starts_as_quit line _ (λ e. absurd (omega (arith, e))) is.1 quit
-quit_accepted line (Unbuilt word.Facts) (inr is) quit = starts_as_quit line _ (λ e. absurd (omega (arith, e))) is.1 quit
-quit_accepted line (Unbuilt word.Binary) is quit = starts_as_quit line _ (λ e. absurd (omega (arith, e))) is.1 quit
-quit_accepted line (Unbuilt word.Icache) is quit = starts_as_quit line _ (λ e. absurd (omega (arith, e))) is.1 quit
-quit_accepted line (Unbuilt word.Code) is quit = starts_as_quit line _ (λ e. absurd (omega (arith, e))) is.1 quit
-quit_accepted line fault is quit = starts_as_quit line _ (λ e. absurd (omega (arith, e))) is.1 quit
+refused_on line (inl is) quit = starts_as_quit line _ (λ e. absurd (omega (arith, e))) is.1 quit
+refused_on line (inr is) quit = starts_as_quit line _ (λ e. absurd (omega (arith, e))) is.1 quit
 
-ends_at : (line : List ℕ) (c : Command) (end : Option Ended) → IsCommand line c → EndsAtCommand c end → EndsAtLine (given line) end
-ends_at line c None is ends = λ quit. ends (quit_alone line c is quit)
-ends_at line c (Some ended.Quit) is ends = let P : Command → Type 0 = λ d. IsCommand line d in ap given (subst P ends is)
-ends_at line c (Some ended.End) is ends = absurd ends
-ends_at line c (Some ended.TooMuch) is ends = absurd ends
-ends_at line c (Some ended.ReadFault) is ends = absurd ends
-ends_at line c (Some ended.WriteFault) is ends = absurd ends
+quit_accepted : (image : Image) (line : List ℕ) (fault : Fault) → IsFaulty image line fault → line ≢ codes "quit"
+quit_accepted image line BadCommand is quit = is quits quit
+quit_accepted image line fault is quit = refused_on line is quit
+
+ends_at : (image : Image) (line : List ℕ) (c : Command) (end : Option Ended) → IsCommand image line c → EndsAtCommand c end → EndsAtLine (given line) end
+ends_at image line c None is ends = λ quit. ends (quit_alone image line c is quit)
+ends_at image line c (Some ended.Quit) is ends = let P : Command → Type 0 = λ d. IsCommand image line d in ap given (subst P ends is)
+ends_at image line c (Some ended.End) is ends = absurd ends
+ends_at image line c (Some ended.TooMuch) is ends = absurd ends
+ends_at image line c (Some ended.ReadFault) is ends = absurd ends
+ends_at image line c (Some ended.WriteFault) is ends = absurd ends
 
 pub followed : (image : Image) (old new : List Entry) (line : List ℕ) (c : Command) (r : Option Reply) (end : Option Ended)
-    → IsCommand line c → Follows 1 old new c r → EndsAtCommand c end → AnswersLine 1 image old new (given line) r end
+    → IsCommand image line c → Follows 1 old new c r → EndsAtCommand c end → AnswersLine 1 image old new (given line) r end
 followed image old new line c r end is f ends =
-    record { entries = f.entries; added = f.added; answered = λ later. follows line c f.entries r is (f.replied image later); ends = ends_at line c end is ends }
+    record { entries = f.entries; added = f.added; answered = λ later. follows line c f.entries r is (f.replied image later); ends = ends_at image line c end is ends }
 
-pub unread : (image : Image) (h : List Entry) (line : List ℕ) (trouble : Trouble) (a : Answer) → Reads line (Err trouble) → a ≡ record { reply = Some (reply_to_trouble trouble); ended = None }
+pub unread : (image : Image) (h : List Entry) (line : List ℕ) (trouble : Trouble) (a : Answer) → Reads image line (Err trouble) → a ≡ record { reply = Some (reply_to_trouble trouble); ended = None }
     → AnswersLine 1 image h h (given line) a.reply a.ended
 unread image h line (Refused fault) a is same =
     let P : Answer → Type 0 = λ b. AnswersLine 1 image h h (given line) b.reply b.ended in
-    subst P (sym same) (record { entries = []; added = sym (append-nil h); answered = λ later. refuses line fault is; ends = quit_accepted line fault is })
+    subst P (sym same) (record { entries = []; added = sym (append-nil h); answered = λ later. refuses line fault is; ends = quit_accepted image line fault is })
 unread image h line (Memory _) a is same =
     let P : Answer → Type 0 = λ b. AnswersLine 1 image h h (given line) b.reply b.ended in
     subst P (sym same) (record { entries = []; added = sym (append-nil h); answered = λ later. lacks line is.0 is.1; ends = is.1 })

@@ -12,7 +12,7 @@ use Rattle.wc_model.specs.declared.entries.Entry.TheVariants as entry
 use Rattle.wc_model.specs.declared.entries.Listing.{Listing}
 use Rattle.wc_model.specs.declared.inputs.Edit.{Edit}
 use Rattle.wc_model.specs.declared.inputs.Edit.TheVariants as edit
-use Rattle.wc_session.specs.Commands.{IsCommand, IsFaulty}
+use Rattle.wc_session.specs.Commands.{IsCommand, IsFaulty, Says, blank, quits}
 use Rattle.wc_session.specs.declared.commands.Command.{Command}
 use Rattle.wc_session.specs.declared.commands.Command.TheVariants as command
 use Rattle.wc_session.specs.declared.replies.Reply.{Reply}
@@ -60,8 +60,8 @@ IsReply session image history c entries (Some reply.Memory) = (IsSilent c → �
 
 -- A line is answered as its command says. Or it is refused, or want of memory is told, and both use no entry.
 pub data IsAnswered (session : ℕ) (image : Image) (history : List Entry) : LineResult → List Entry → Option Reply → Type 0 where
-  follows : (line : List ℕ) (c : Command) (entries : List Entry) (r : Option Reply) → IsCommand line c → IsReply session image history c entries r → IsAnswered session image history (given line) entries r
-  refuses : (line : List ℕ) (fault : Fault) → IsFaulty line fault → IsAnswered session image history (given line) [] (Some (reply.Refused fault))
-  lacks : (line : List ℕ) → (IsCommand line command.Blank → ⊥) → (IsCommand line command.Quit → ⊥) → IsAnswered session image history (given line) [] (Some reply.Memory)
+  follows : (line : List ℕ) (c : Command) (entries : List Entry) (r : Option Reply) → IsCommand image line c → IsReply session image history c entries r → IsAnswered session image history (given line) entries r
+  refuses : (line : List ℕ) (fault : Fault) → IsFaulty image line fault → IsAnswered session image history (given line) [] (Some (reply.Refused fault))
+  lacks : (line : List ℕ) → (Says line blank → ⊥) → (Says line quits → ⊥) → IsAnswered session image history (given line) [] (Some reply.Memory)
   is_long : IsAnswered session image history too_long [] (Some (reply.Refused LongLine))
   is_much : IsAnswered session image history too_much [] (Some (reply.Refused TooMuch))

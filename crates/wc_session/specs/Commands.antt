@@ -1,11 +1,15 @@
 -- What a line of a session's script says, and which command it is.
-use Rattle.std.specs.Prelude.{◌≡◌, ℕ, ◌+◌, ◌-◌, ◌*◌, ◌^◌, ◌<◌, ◌==◌, nat_le, Bool, true, not, ◌&&◌, ◌||◌, ◌⊎◌, List, [], ◌∷◌, ◌++◌, length, codes, None, IsSome, Result, Ok, Err}
+use Rattle.std.specs.Prelude.{◌≡◌, ℕ, ◌+◌, ◌-◌, ◌*◌, ◌^◌, ◌<◌, ◌==◌, nat_le, Bool, true, false, not, ◌&&◌, ◌||◌, ◌⊎◌, List, [], ◌∷◌, ◌++◌, length, codes, None, IsSome, Result, Ok, Err}
 use Rattle.std.specs.List.{list_all}
 use Rattle.wc_base.specs.declared.faults.Fault.{Fault}
 use Rattle.wc_base.specs.declared.faults.Fault.TheVariants.{BadCommand, Unbuilt}
 use Rattle.wc_base.specs.declared.faults.UnbuiltWord.TheVariants.{Facts, Icache}
 use Rattle.wc_base.specs.declared.troubles.Trouble.{Trouble}
 use Rattle.wc_base.specs.declared.troubles.Trouble.TheVariants.{Fault as Refused, Memory}
+use Rattle.wc_f4.specs.Reading.{ReadsOne, names_of}
+use Rattle.wc_model.specs.declared.elf_image.Image.{Image}
+use Rattle.wc_model.specs.declared.flow_facts.Fact.{Fact}
+use Rattle.wc_model.specs.declared.flow_facts.Fact.TheVariants.{Checksum}
 use Rattle.wc_model.specs.declared.machine.Hardware.{Hardware}
 use Rattle.wc_hw.specs.Reading.{ReadsAs}
 use Rattle.wc_session.specs.declared.commands.Command.{Command}
@@ -18,11 +22,12 @@ is_blank b = b == 32 || b == 9
 abbrev pub is_digit : ℕ → Bool
 is_digit b = nat_le 48 b && nat_le b 57
 
--- decimal digits, at least one, that state a number below 2^64
+-- the number that decimal digits stand for, behind digits that stand for n
 abbrev pub decimal_value : ℕ → List ℕ → ℕ
 decimal_value n [] = n
 decimal_value n (b ∷ bs) = decimal_value (n * 10 + (b - 48)) bs
 
+-- decimal digits, at least one, that state a number below 2^64; zeros may stand at the front
 pub record IsNumber (digits : List ℕ) (number : ℕ) : Type 0 where
   pub some : 0 < length digits
   pub all : list_all is_digit digits ≡ true
@@ -54,32 +59,37 @@ Says line (asks name) = (line ≡ codes "bound " ++ name) × IsName name
 Says line lists = line ≡ codes "list"
 Says line quits = line ≡ codes "quit"
 
--- Facts aren't read yet.
-abbrev pub IsOnFacts : List ℕ → Type 0
-IsOnFacts line = ((rest : List ℕ) × (line ≡ codes "add " ++ rest)) ⊎ ((rest : List ℕ) × (line ≡ codes "drop " ++ rest))
+-- No fact but a checksum is analysed yet.
+abbrev pub is_checksum : Fact → Bool
+is_checksum (Checksum name value) = true
+is_checksum _ = false
 
--- Nor is a cache analysed yet.
+abbrev pub IsBadFact : Image → List ℕ → Fault → Type 0
+IsBadFact image text (Unbuilt Facts) = (fact : Fact) × ReadsOne (names_of image) text (Ok fact) × (is_checksum fact ≡ false)
+IsBadFact image text fault = ReadsOne (names_of image) text (Err (Refused fault))
+
+-- Nor is a cache.
 abbrev pub IsBadHardware : List ℕ → Fault → Type 0
 IsBadHardware json (Unbuilt Icache) = (hardware : Hardware) × ReadsAs json (Ok hardware) × IsSome hardware.cache
 IsBadHardware json fault = ReadsAs json (Err (Refused fault))
 
--- The command of a line that is accepted.
-abbrev pub IsCommand : List ℕ → Command → Type 0
-IsCommand line command.Blank = Says line blank
-IsCommand line command.Quit = Says line quits
-IsCommand line command.List = Says line lists
-IsCommand line (command.Bound name) = Says line (asks name)
-IsCommand line (command.Hardware hardware) = (json : List ℕ) × Says line (sets json) × ReadsAs json (Ok hardware) × (hardware.cache ≡ None)
-IsCommand line (command.Add fact) = ⊥
-IsCommand line (command.Drop number) = ⊥
+-- The command of a line that is accepted. Names in a fact are those of the image.
+abbrev pub IsCommand : Image → List ℕ → Command → Type 0
+IsCommand image line command.Blank = Says line blank
+IsCommand image line command.Quit = Says line quits
+IsCommand image line command.List = Says line lists
+IsCommand image line (command.Bound name) = Says line (asks name)
+IsCommand image line (command.Hardware hardware) = (json : List ℕ) × Says line (sets json) × ReadsAs json (Ok hardware) × (hardware.cache ≡ None)
+IsCommand image line (command.Add fact) = (text : List ℕ) × Says line (adds text) × ReadsOne (names_of image) text (Ok fact) × (is_checksum fact ≡ true)
+IsCommand image line (command.Drop number) = Says line (drops number)
 
--- The fault of a line that is refused: it has none of the forms, is on facts, or its hardware is refused.
-abbrev pub IsFaulty : List ℕ → Fault → Type 0
-IsFaulty line BadCommand = ((form : Form) → Says line form → ⊥) × (IsOnFacts line → ⊥)
-IsFaulty line (Unbuilt Facts) = IsOnFacts line
-IsFaulty line fault = (json : List ℕ) × Says line (sets json) × IsBadHardware json fault
+-- The fault of a line that is refused: it has none of the forms, or its fact or its hardware is refused.
+abbrev pub IsFaulty : Image → List ℕ → Fault → Type 0
+IsFaulty image line BadCommand = (form : Form) → Says line form → ⊥
+IsFaulty image line fault =
+    ((text : List ℕ) × Says line (adds text) × IsBadFact image text fault) ⊎ ((json : List ℕ) × Says line (sets json) × IsBadHardware json fault)
 
--- What reading the rest of a `bound` or of a `hardware` line answers.
+-- What reading the rest of a line answers, behind the word of its form.
 abbrev pub ReadsName : List ℕ → Result (List ℕ) Trouble → Type 0
 ReadsName bytes (Ok name) = (name ≡ bytes) × IsName bytes
 ReadsName bytes (Err (Refused fault)) = (fault ≡ BadCommand) × (IsName bytes → ⊥)
@@ -90,8 +100,13 @@ ReadsTiming json (Ok hardware) = ReadsAs json (Ok hardware) × (hardware.cache �
 ReadsTiming json (Err (Refused fault)) = IsBadHardware json fault
 ReadsTiming json (Err (Memory _)) = Unit {0}
 
+abbrev pub ReadsFact : Image → List ℕ → Result Fact Trouble → Type 0
+ReadsFact image text (Ok fact) = ReadsOne (names_of image) text (Ok fact) × (is_checksum fact ≡ true)
+ReadsFact image text (Err (Refused fault)) = IsBadFact image text fault
+ReadsFact image text (Err (Memory _)) = Unit {0}
+
 -- What reading a line answers. Neither a blank line nor `quit` takes memory.
-abbrev pub Reads : List ℕ → Result Command Trouble → Type 0
-Reads line (Ok command) = IsCommand line command
-Reads line (Err (Refused fault)) = IsFaulty line fault
-Reads line (Err (Memory _)) = (Says line blank → ⊥) × (Says line quits → ⊥)
+abbrev pub Reads : Image → List ℕ → Result Command Trouble → Type 0
+Reads image line (Ok command) = IsCommand image line command
+Reads image line (Err (Refused fault)) = IsFaulty image line fault
+Reads image line (Err (Memory _)) = (Says line blank → ⊥) × (Says line quits → ⊥)

@@ -9,7 +9,8 @@ use wc_model::Asked;
 
 /// One ask from its pin to its answer.
 pub fn ask<W: Work>(alloc: Global, core: &mut Core<W>, name: &[u8]) -> Result<Asked, AllocError>
-    requires { LeavesFree core.old.opening core.old.history 1 }
+    requires free { LeavesFree core.old.opening core.old.history 1 }
+    requires alone { core.old.opening.sessions ≡ 1 }
     ensures kept { IfOk result (λ _. KeepsCore W.chain 1 core.old core.new) }
     ensures answer { IfOk result (AddsAsk 1 name.now core.old.history core.new.history) }
     ensures memory { OnErr result (core.new ≡ core.old) }

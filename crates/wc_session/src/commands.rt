@@ -1,9 +1,11 @@
 ghost use Rattle.std.specs.Prelude.{◌≡◌, ◌≢◌, ℕ, not, IfOk, List, ◌++◌, MatchOption};
 ghost use Rattle.std.specs.List.{list_all};
-ghost use Rattle.wc_session.specs.Commands.{is_blank, Reads, ReadsName, ReadsTiming};
+ghost use Rattle.wc_session.specs.Commands.{is_blank, is_checksum, Reads, ReadsFact, ReadsName, ReadsTiming};
 
-use std::alloc::{AllocError, Global};
+use crate::numbers::read_number;
+use std::alloc::Global;
 use wc_base::{Fault, Trouble, UnbuiltWord};
+use wc_f4::read_one;
 use wc_hw::read_hardware;
 use wc_model::{Fact, Hardware, Image, Text};
 
@@ -47,22 +49,14 @@ fn after<'a>(word: &[u8], line: &'a [u8]) -> Option<&'a [u8]>
     line.strip_prefix(word)
 }
 
-fn text_of(alloc: Global, bytes: &[u8]) -> Result<Text, AllocError>
-    ensures { IfOk result (λ t. t ≡ bytes.now) }
-{
-    let mut items = Vec::new(alloc);
-    items.extend_from_slice(bytes)?;
-    Ok(Text::new(items))
-}
-
 fn read_name(alloc: Global, bytes: &[u8]) -> Result<Text, Trouble>
     ensures { ReadsName bytes.now result }
 {
     if bytes.is_empty() || !has_no_blank(bytes) {
         return Err(Trouble::Fault(Fault::BadCommand));
     }
-    match text_of(alloc, bytes) {
-        Ok(name) => Ok(name),
+    match bytes.to_vec(alloc) {
+        Ok(name) => Ok(Text::new(name)),
         Err(error) => Err(Trouble::Memory(error)),
     }
 }
@@ -79,10 +73,32 @@ fn read_timing(alloc: Global, json: &[u8]) -> Result<Hardware, Trouble>
     }
 }
 
-/// The command that a line states. A line of no known form is refused with `BadCommand`, and one that states a
-/// hardware with the fault of its reader. Facts and caches are refused, since they aren't analysed yet.
-pub fn read_command(alloc: Global, line: &[u8], _image: &Image) -> Result<Command, Trouble>
-    ensures { Reads line.now result }
+fn is_checksum(fact: &Fact) -> bool
+    ensures { result ≡ is_checksum fact.now }
+{
+    matches!(fact, Fact::Checksum { .. })
+}
+
+fn read_fact(alloc: Global, text: &[u8], image: &Image) -> Result<Fact, Trouble>
+    ensures { ReadsFact image.now text.now result }
+{
+    match read_one(alloc, text, image) {
+        Ok(fact) => {
+            if is_checksum(&fact) {
+                Ok(fact)
+            } else {
+                Err(Trouble::Fault(Fault::Unbuilt(UnbuiltWord::Facts)))
+            }
+        }
+        Err(trouble) => Err(trouble),
+    }
+}
+
+/// The command that a line states. A line of no known form is refused with `BadCommand`, and one that states a fact or
+/// a hardware with the fault of its reader. Facts other than checksums, and caches, are refused, since they aren't
+/// analysed yet.
+pub fn read_command(alloc: Global, line: &[u8], image: &Image) -> Result<Command, Trouble>
+    ensures { Reads image.now line.now result }
 {
     if is_blank_line(line) {
         return Ok(Command::Blank);
@@ -105,8 +121,17 @@ pub fn read_command(alloc: Global, line: &[u8], _image: &Image) -> Result<Comman
             Err(trouble) => Err(trouble),
         };
     }
-    if after(b"add ", line).is_some() || after(b"drop ", line).is_some() {
-        return Err(Trouble::Fault(Fault::Unbuilt(UnbuiltWord::Facts)));
+    if let Some(text) = after(b"add ", line) {
+        return match read_fact(alloc, text, image) {
+            Ok(fact) => Ok(Command::Add(fact)),
+            Err(trouble) => Err(trouble),
+        };
+    }
+    if let Some(digits) = after(b"drop ", line) {
+        return match read_number(digits) {
+            Some(number) => Ok(Command::Drop(number)),
+            None => Err(Trouble::Fault(Fault::BadCommand)),
+        };
     }
     Err(Trouble::Fault(Fault::BadCommand))
 }

@@ -51,7 +51,8 @@ fn change<W: Work>(core: &mut Core<W>, edit: Edit) -> Reply
 }
 
 fn bound<W: Work>(alloc: Global, core: &mut Core<W>, name: Text) -> Reply
-    requires { LeavesFree core.old.opening core.old.history 1 }
+    requires free { LeavesFree core.old.opening core.old.history 1 }
+    requires alone { core.old.opening.sessions ≡ 1 }
     ensures kept { KeepsCore W.chain 1 core.old core.new }
     ensures reply { Follows 1 core.old.history core.new.history (Command.Bound name) (Some result) }
 {
@@ -74,7 +75,8 @@ fn list<W: Work>(core: &mut Core<W>) -> Reply
 
 /// Does what a command says.
 pub fn follow<W: Work>(alloc: Global, core: &mut Core<W>, command: Command) -> Answer
-    requires { LeavesFree core.old.opening core.old.history 1 }
+    requires free { LeavesFree core.old.opening core.old.history 1 }
+    requires alone { core.old.opening.sessions ≡ 1 }
     ensures kept { KeepsCore W.chain 1 core.old core.new }
     ensures reply { Follows 1 core.old.history core.new.history command result.reply }
     ensures end { EndsAtCommand command result.ended }

@@ -2,8 +2,11 @@
 #![tactic(auto)]
 
 mod asks;
+#[cfg(test)]
+mod command_tests;
 mod commands;
 mod following;
+mod numbers;
 mod replies;
 mod serving;
 mod sessions;

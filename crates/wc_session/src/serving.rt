@@ -14,7 +14,8 @@ use wc_io::{Failed, LineRead, Lines, Sink, Source};
 use wc_model::{Ended, Image};
 
 fn answer_line<W: Work>(alloc: Global, core: &mut Core<W>, image: &Image, line: &[u8]) -> Answer
-    requires { LeavesFree core.old.opening core.old.history 1 }
+    requires free { LeavesFree core.old.opening core.old.history 1 }
+    requires alone { core.old.opening.sessions ≡ 1 }
     ensures kept { KeepsCore W.chain 1 core.old core.new }
     ensures answer { AnswersLine 1 image.now core.old.history core.new.history (given line.now) result.reply result.ended }
 {
@@ -45,6 +46,7 @@ fn serve_next<W: Work, S: Source, K: Sink>(
     sink: &mut K,
 ) -> Option<Ended>
     requires free { LeavesFree core.old.opening core.old.history 1 }
+    requires alone { core.old.opening.sessions ≡ 1 }
     requires unread { IsFalse lines.old.ended }
     ensures kept { KeepsCore W.chain 1 core.old core.new }
     ensures part { IsPart 1 image.now core.old.history core.new.history lines.old.rest lines.new.rest (K.held sink.old) (K.held sink.new) result }
@@ -82,6 +84,7 @@ pub fn serve_all<W: Work, S: Source, K: Sink>(
     sink: &mut K,
 ) -> Ended
     requires free { LeavesFree core.old.opening core.old.history 1 }
+    requires alone { core.old.opening.sessions ≡ 1 }
     requires unread { IsFalse lines.old.ended }
     ensures kept { KeepsCore W.chain 1 core.old core.new }
     ensures part { IsPart 1 image.now core.old.history core.new.history lines.old.rest lines.new.rest (K.held sink.old) (K.held sink.new) (Some result) }

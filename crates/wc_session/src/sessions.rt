@@ -33,6 +33,7 @@ pub fn session<R: Wait, W: Work + Send, S: Source, K: Sink>(
     mut sink: K,
 ) -> SessionEnd<S, K>
     requires free { LeavesFree core.old.opening core.old.history 1 }
+    requires alone { core.old.opening.sessions ≡ 1 }
     requires unread { IsFalse lines.ended }
     ensures opening { core.new.opening ≡ core.old.opening }
     ensures legal { IsLegal W.chain core.old.opening core.old.history → IsLegal W.chain core.new.opening core.new.history }

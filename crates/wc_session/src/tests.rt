@@ -9,7 +9,7 @@ use std::sync::{Arc, Wait};
 use std::test::Fail;
 use wc_core::{Core, Given, Job, Work};
 use wc_io::{Lines, MemorySink, MemorySource};
-use wc_model::{Cycles, Describe, Ended, Fact, Hardware, Image, Kind, Outcome, Part, Table};
+use wc_model::{Cycles, Describe, Ended, Entry, Fact, Hardware, Image, Kind, Outcome, Part, Table};
 
 // A work whose bound is the cycles of the class `alu` and one more. The run numbered `failing` finds no memory.
 #[derive(Drop)]
@@ -143,7 +143,8 @@ fn empty_image(alloc: Global) -> Image {
 }
 
 fn core_of(alloc: Global, facts: Vec<Fact>, failing: u64) -> Result<Core<Adder>, AllocError>
-    ensures { IfOk result (λ c. LeavesFree c.opening c.history 1) }
+    ensures free { IfOk result (λ c. LeavesFree c.opening c.history 1) }
+    ensures alone { IfOk result (λ c. c.opening.sessions ≡ 1) }
 {
     let image = Arc::new(alloc, empty_image(alloc))?;
     let works = works_of(alloc, failing)?;
@@ -194,7 +195,8 @@ fn serve_over<R: Wait>(
     source: MemorySource,
     sink: MemorySink,
 ) -> Result<SessionEnd<MemorySource, MemorySink>, AllocError>
-    requires { LeavesFree core.old.opening core.old.history 1 }
+    requires free { LeavesFree core.old.opening core.old.history 1 }
+    requires alone { core.old.opening.sessions ≡ 1 }
 {
     let image = empty_image(alloc);
     match Lines::new(alloc, source) {
@@ -304,12 +306,30 @@ fn a_line_that_is_refused_says_why(rt: HostRuntime) -> Result<(), Fail> {
             "90 Unbuilt icache",
         ),
         ("hardware {\"icache\":{\"sets\":3}}", "11 BadField sets"),
-        ("add x", "90 Unbuilt facts"),
-        ("add ", "90 Unbuilt facts"),
-        ("drop 1", "90 Unbuilt facts"),
-        ("drop x", "90 Unbuilt facts"),
         ("add", "50 BadCommand"),
-        ("drop\t1", "50 BadCommand"),
+        ("add ", "12 BadFact line 1"),
+        ("add loop 0x8004 9", "12 BadFact line 1"),
+        ("add checksum \"a\" 4294967296;", "12 BadFact line 1"),
+        (
+            "add checksum \"a\" 1; checksum \"b\" 2;",
+            "12 BadFact line 1",
+        ),
+        ("add loop \"nope\" 3;", "13 UnknownLabel line 1"),
+        ("add loop 0x8004 9;", "90 Unbuilt facts"),
+        ("add limit [0x8004] <= 3;", "90 Unbuilt facts"),
+        ("drop", "50 BadCommand"),
+        ("drop ", "50 BadCommand"),
+        ("drop x", "50 BadCommand"),
+        ("drop +2", "50 BadCommand"),
+        ("drop 2 ", "50 BadCommand"),
+        ("drop  2", "50 BadCommand"),
+        ("drop\t2", "50 BadCommand"),
+        ("drop 18446744073709551616", "50 BadCommand"),
+        ("drop 99999999999999999999", "50 BadCommand"),
+        ("drop 18446744073709551615", "52 NoFact"),
+        ("drop 0000000000000000000000002", "52 NoFact"),
+        // edit 1 is the opening hardware
+        ("drop 1", "52 NoFact"),
     ];
     for (line, fault) in table {
         let end = replies(&rt, rt.alloc(), line)?;
@@ -320,6 +340,65 @@ fn a_line_that_is_refused_says_why(rt: HostRuntime) -> Result<(), Fail> {
         assert_eq!(rt; end.sink.held, want, "{line:?}");
         assert_eq!(rt; end.ended, Ended::End);
     }
+    Ok(())
+}
+
+const PLAIN: &str =
+    "hardware {\"cycles\":{\"alu\":1,\"mul\":1,\"div\":1,\"load\":1,\"store\":1,\"multi\":1,\"branch\":1,\"system\":1,\"taken\":0,\"per_register\":0},\"icache\":null}\n";
+
+fn with_plain(alloc: Global, replies: &[&str]) -> Result<Vec<u8>, AllocError> {
+    let mut want = Vec::new(alloc);
+    for part in replies {
+        want.extend_from_slice(part.as_bytes())?;
+        want.extend_from_slice(PLAIN.as_bytes())?;
+    }
+    Ok(want)
+}
+
+#[test]
+fn facts_are_added_listed_and_dropped(rt: HostRuntime) -> Result<(), Fail> {
+    let script =
+        "add checksum \"a.elf\" 7;\nadd \t/* of 2 */checksum\"\" 0x10 ; // all\nlist\ndrop 02\ndrop 2\nlist\nadd checksum \"c\" 0;\nlist\n";
+    let end = replies(&rt, rt.alloc(), script)?;
+    let want = with_plain(
+        rt.alloc(),
+        &[
+            "edit 2\nedit 3\nlist 2 at 3\n2 checksum \"a.elf\" 7;\n3 checksum \"\" 16;\n",
+            "edit 4\nrefused 52 NoFact\nlist 1 at 4\n3 checksum \"\" 16;\n",
+            "edit 5\nlist 2 at 5\n3 checksum \"\" 16;\n5 checksum \"c\" 0;\n",
+        ],
+    )?;
+    assert_eq!(rt; end.sink.held, want);
+    Ok(())
+}
+
+#[test]
+fn a_refused_line_has_no_entry_but_that_of_a_drop(rt: HostRuntime) -> Result<(), Fail> {
+    let alloc = rt.alloc();
+    let mut source = source_of(alloc, "drop 99\n", &[])?;
+    for _ in 0..4_097 {
+        source.left.push(b'x')?;
+    }
+    let rest = "\nfrob\nadd loop \"nope\" 3;\nadd loop 0x8004 9\nhardware {\nlist\n";
+    source.left.extend_from_slice(rest.as_bytes())?;
+    let mut core = core_of(alloc, Vec::new(alloc), 0)?;
+    let end = serve_over(&rt, alloc, &mut core, source, sink_of(alloc, &[])?)?;
+    let want = with_plain(
+        alloc,
+        &[
+            "refused 52 NoFact\nrefused 51 LongLine\nrefused 50 BadCommand\nrefused 13 UnknownLabel line 1\nrefused 12 BadFact line 1\nrefused 10 BadJson\nlist 0 at 1\n",
+        ],
+    )?;
+    assert_eq!(rt; end.sink.held, want);
+    let missing = Entry::NoFact {
+        session: 1,
+        number: 99,
+        at: 1,
+    };
+    let listed = Entry::List { session: 1, at: 1 };
+    assert_eq!(rt; core.history().len(), 3);
+    assert_eq!(rt; core.history()[1], missing);
+    assert_eq!(rt; core.history()[2], listed);
     Ok(())
 }
 
@@ -382,35 +461,5 @@ fn a_failure_of_the_outside_ends_a_session(rt: HostRuntime) -> Result<(), Fail> 
     );
     assert_eq!(rt; unread.ended, Ended::ReadFault);
     assert_eq!(rt; unread.source.faults, 1);
-    Ok(())
-}
-
-fn word_of(command: &Command) -> &'static str {
-    match command {
-        Command::Add(_) => "add",
-        Command::Drop(_) => "drop",
-        Command::Hardware(_) => "hardware",
-        Command::Bound(_) => "bound",
-        Command::List => "list",
-        Command::Quit => "quit",
-        Command::Blank => "blank",
-    }
-}
-
-#[test]
-fn a_command_is_read_from_its_line(rt: HostRuntime) -> Result<(), Fail> {
-    let image = empty_image(rt.alloc());
-    let table = [
-        ("", "blank"),
-        (" \t ", "blank"),
-        ("quit", "quit"),
-        ("list", "list"),
-        ("bound f", "bound"),
-        ("hardware {}", "hardware"),
-    ];
-    for (line, word) in table {
-        let command = read_command(rt.alloc(), line.as_bytes(), &image)?;
-        assert_eq!(rt; word_of(&command), word, "{line:?}");
-    }
     Ok(())
 }
