@@ -15,29 +15,32 @@ use Rattle.wcet.specs.declared.serve.Unserved.TheVariants.{Unloaded as NotLoaded
 use Rattle.wcet.specs.Answers.{Shows}
 use Rattle.wcet.specs.Files.{Holds, IsTold, IsFirstFault, paths_of}
 use Rattle.wcet.specs.ReportText.{report_text}
-use Rattle.wcet.specs.ServeCall.{HasFailedLast, IsUnreplied, Prevents, unserved_line, unserved_status, Reports, IsHeadline, IsDone, ShowsReport, RefusesFile, HasFaultyFile, HasSoundFiles, OpensInOrder, RepliesNothing, KeepsFiles, serve_paths}
+use Rattle.wcet.specs.ServeCall.{AreKept, Prevents, unserved_line, unserved_status, Reports, IsHeadline, IsUnserved, IsDone, ShowsReport, RefusesFile, HasFaultyFile, HasSoundFiles, OpensInOrder, KeepsFiles, serve_paths}
 use Rattle.wcet.specs.Session.{IsSession}
 use Rattle.wcet.specs.Starts.{all_starts, bound_runs}
-use Rattle.wcet.specs.Words.{IsServeCall, IsFaultyServe, optional_word}
-use Rattle.wcet.proofs.BoundAnswers.{fault_rows, same_hardware}
-use Rattle.wcet.proofs.CallLemmas.{some_rows}
+use Rattle.wcet.specs.Words.{IsServeCall, IsFaultyServe, optional_word, Paths}
+use Rattle.wcet.proofs.BoundAnswers.{fault_rows, same_optional, same_paths}
+use Rattle.wcet.proofs.LoadingLemmas.{unfinished_rows}
+use Rattle.wcet.proofs.CallLemmas.{after_counts, after_rows, some_rows, unread_counts, unread_opened}
 use Rattle.wcet.proofs.OneAnswer.{inputs_faultless, told_fault}
 
 named_path : (h : Option (List ℕ)) (output : List ℕ) → IfSome h (λ path. (path ≢ codes "-") × (output ≢ path)) → IfSome h (λ path. path ≢ codes "-")
 named_path None output is = tt
 named_path (Some path) output is = is.0
 
--- words name one binary, one hardware, one script and one output
-same_serve : (words : List (List ℕ)) (b b' : List ℕ) (h h' : Option (List ℕ)) (i i' o o' : List ℕ) → IsServeCall words b h i o → IsServeCall words b' h' i' o'
-    → (P : List ℕ → Option (List ℕ) → List ℕ → List ℕ → Type 0) → P b h i o → P b' h' i' o'
-same_serve words b b' h h' i i' o o' one other P holds =
+-- words name one list of files, one script and one output
+same_serve : (words : List (List ℕ)) (p q : Paths) (i j o k : List ℕ) → IsServeCall words p i o → IsServeCall words q j k → (P : Paths → List ℕ → List ℕ → Type 0) → P p i o → P q j k
+same_serve words p q i j o k one other P holds =
     let form = sym one.form ∙ other.form in
-    let binaries : b ≡ b' = cc in
-    let timings : optional_word h ≡ optional_word h' = cc in
-    let inputs : i ≡ i' = cc in
-    let outputs : o ≡ o' = cc in
-    let hardwares : h ≡ h' = same_hardware h h' (named_path h o one.path) (named_path h' o' other.path) timings in
-    subst (λ (x : List ℕ). P b' h' i' x) outputs (subst (λ (x : List ℕ). P b' h' x o) inputs (subst (λ (x : Option (List ℕ)). P b' x i o) hardwares (subst (λ (x : List ℕ). P x h i o) binaries holds)))
+    let binaries : p.binary ≡ q.binary = cc in
+    let flows : optional_word p.facts ≡ optional_word q.facts = cc in
+    let timings : optional_word p.hardware ≡ optional_word q.hardware = cc in
+    let inputs : i ≡ j = cc in
+    let outputs : o ≡ k = cc in
+    same_paths p q binaries
+    (same_optional p.hardware q.hardware (named_path p.hardware o one.hardware) (named_path q.hardware k other.hardware) timings)
+    (same_optional p.facts q.facts (named_path p.facts o one.facts) (named_path q.facts k other.facts) flows)
+    (λ ps. P ps j k) (subst (λ (x : List ℕ). P p j x) outputs (subst (λ (x : List ℕ). P p x o) inputs holds))
 
 read_counts : (input output : List ℕ) (failed write : Bool) → failed ≡ true → failed_count false (row_failed input false failed ∷ row_failed output true write ∷ []) ≡ 1
 read_counts input output true true is = refl
@@ -49,19 +52,18 @@ write_counts input output true true is = refl
 write_counts input output true false is = refl
 write_counts input output false read is = absurd (cc)
 
-module _ (words : List (List ℕ)) (tells : Bool) (files now : List ℕ → Option (List ℕ)) (binary : List ℕ) (hardware : Option (List ℕ)) (input output : List ℕ) (call : IsServeCall words binary hardware input output) (old new : List Row) (held after : Option (List ℕ)) (before later status : ℕ) where
+module _ (words : List (List ℕ)) (tells : Bool) (files now : List ℕ → Option (List ℕ)) (paths : Paths) (input output : List ℕ) (call : IsServeCall words paths input output) (old new : List Row) (held after : Option (List ℕ)) (before later status : ℕ) where
   -- A session was served.
   module _ (history : List Entry) (runs : ℕ) (runs_are : bound_runs runs ≡ all_starts history) where
     abbrev Session : Ended → Type 0
-    Session end = IsSession tells files now binary hardware input output old new history end
+    Session end = IsSession tells files now paths input output old new history end
 
     abbrev Printed : Ended → Type 0
     Printed end = Reports (report_text history (bound_runs runs) (end ∷ [])) end held after before later status
 
     headline : (prints : List ℕ → Type 0) (end : Ended) → Session end → prints (report_text history (bound_runs runs) (end ∷ [])) → IsHeadline words tells files now old new prints end
     headline prints end s printed = record {
-      binary = binary;
-      hardware = hardware;
+      paths = paths;
       input = input;
       output = output;
       call = call;
@@ -110,7 +112,7 @@ module _ (words : List (List ℕ)) (tells : Bool) (files now : List ℕ → Opti
     not_six = is_four 6 (λ e. omega (arith, e)) (λ e. omega (arith, e)) (λ e. omega (arith, e)) (λ e. omega (arith, e))
 
     pub ok_usage : (end : Ended) → Printed end → (status ≡ 2) ↔ IsFaultyServe words
-    ok_usage end r = (λ z. absurd (not_two end r z), λ faulty. absurd (faulty binary hardware input output call))
+    ok_usage end r = (λ z. absurd (not_two end r z), λ faulty. absurd (faulty paths input output call))
 
     pub ok_read : (end : Ended) → Session end → Printed end → status ≡ 3 → failed_count false old < failed_count false new
     ok_read ended.ReadFault s r z = read_rose s
@@ -149,7 +151,7 @@ module _ (words : List (List ℕ)) (tells : Bool) (files now : List ℕ → Opti
 
     pub ok_bad_file : {A : Type 0} (end : Ended) → Session end → HasFaultyFile words files → A
     ok_bad_file end s t =
-        absurd (inputs_faultless files tells binary hardware s.loaded t.fault t.paths s.inputs (same_serve words t.binary binary t.hardware hardware t.input input t.output output t.call call (λ b h i o. IsFirstFault (IsTold files) b h t.fault t.paths) t.first))
+        absurd (inputs_faultless files tells paths s.loaded t.fault t.read s.inputs (same_serve words t.paths paths t.input input t.output output t.call call (λ p i o. IsFirstFault (IsTold files) p t.fault t.read) t.first))
 
     pub ok_complete : (end : Ended) → Session end → Printed end → failed_count false new ≡ failed_count false old → failed_count true new ≡ failed_count true old → (Rose before later → ⊥) → (status ≡ 0) ⊎ ((status ≡ 7) ⊎ (status ≡ 5))
     ok_complete ended.Quit s r reads writes quiet = inl (elim r [ inl t ↦ t.0 | inr t ↦ absurd (quiet t.2) ])
@@ -165,32 +167,50 @@ module _ (words : List (List ℕ)) (tells : Bool) (files now : List ℕ → Opti
     )
 
     pub ok_opened : (end : Ended) → Session end → OpensInOrder words old new
-    ok_opened end s b h i o other =
-        same_serve words binary b hardware h input i output o call other (λ b h i o. AddsRows (serve_paths b h i o) old new)
-        (AddsRows_then (map (λ (path : List ℕ). (path, false)) (paths_of binary hardware)) ((input, false) ∷ (output, true) ∷ []) old s.before new s.opened (row_failed input false s.session.read_failed ∷ row_failed output true s.session.write_failed ∷ [], s.session.rows, (2, refl)))
+    ok_opened end s p i o other =
+        same_serve words paths p input i output o call other (λ p i o. AddsRows (serve_paths p i o) old new)
+        (AddsRows_then (map (λ (path : List ℕ). (path, false)) (paths_of paths)) ((input, false) ∷ (output, true) ∷ []) old s.before new s.opened (row_failed input false s.session.read_failed ∷ row_failed output true s.session.write_failed ∷ [], s.session.rows, (2, refl)))
 
   pub keeps : ((p : List ℕ) → p ≢ output → now p ≡ files p) → KeepsFiles words files now
-  keeps others b h i o other = same_serve words binary b hardware h input i output o call other (λ b h i o. (p : List ℕ) → p ≢ o → now p ≡ files p) others
+  keeps others p i o other = same_serve words paths p input i output o call other (λ p i o. (p : List ℕ) → p ≢ o → now p ≡ files p) others
 
   -- No session was served.
   abbrev Why : Unserved → Type 0
-  Why u = Prevents (Holds tells files) binary hardware input output old new u
+  Why u = Prevents tells files now paths input output old new u
 
-  pub err_replies : IsUnreplied tells files now output → RepliesNothing words tells files now
-  err_replies unreplied b h i o other = same_serve words binary b hardware h input i output o call other (λ b h i o. IsUnreplied tells files now o) unreplied
+  abbrev Told : Unserved → Type 0
+  Told u = IsUnserved words tells files now old new u
+
+  told : (u : Unserved) → Why u → Told u
+  told u why = record { paths = paths; input = input; output = output; call = call; prevents = why }
 
   pub err_opened : (u : Unserved) → Why u → OpensInOrder words old new
-  err_opened u why b h i o other = same_serve words binary b hardware h input i output o call other (λ b h i o. AddsRows (serve_paths b h i o) old new) (by u why)
+  err_opened u why p i o other = same_serve words paths p input i output o call other (λ p i o. AddsRows (serve_paths p i o) old new) (by u why)
     where
-      by : (x : Unserved) → Why x → AddsRows (serve_paths binary hardware input output) old new
-      by WriteFault w = w.2
-      by (NotLoaded unloaded.ReadFault) w = w.1
-      by (NotLoaded (unloaded.Refused fault)) w = some_rows binary hardware input output old new (fault_rows (Holds tells files) binary hardware old new fault w.paths w.first w.opened)
-      by (NotLoaded unloaded.Memory) w = w
+      by : (x : Unserved) → Why x → AddsRows (serve_paths paths input output) old new
+      by WriteFault w = after_rows (Holds tells files) paths old new (row_failed input false false ∷ row_failed output true true ∷ []) w.0 input output 2 refl
+      by (NotLoaded unloaded.ReadFault) w = elim w.0 [
+        | inl u ↦ some_rows paths input output old new (unread_opened (Holds tells files) paths old new u)
+        | inr a ↦ after_rows (Holds tells files) paths old new (row_failed input false true ∷ []) a input output 1 refl
+      ]
+      by (NotLoaded (unloaded.Refused fault)) w = some_rows paths input output old new (fault_rows (Holds tells files) paths old new fault w.0.read w.0.first w.0.opened)
+      by (NotLoaded unloaded.Memory) w = elim w [
+        | inl a ↦ elim a.0 [
+          | inl u ↦ some_rows paths input output old new (unfinished_rows (Holds tells files) paths old new u)
+          | inr b ↦ after_rows (Holds tells files) paths old new (row_failed input false false ∷ []) b input output 1 refl
+        ]
+        | inr a ↦ after_rows (Holds tells files) paths old new (row_failed input false false ∷ row_failed output true false ∷ []) a.0 input output 2 refl
+      ]
+
+  read_counted : Why (NotLoaded unloaded.ReadFault) → failed_count false old < failed_count false new
+  read_counted w = elim w.0 [ inl u ↦ unread_counts (Holds tells files) paths old new u | inr a ↦ after_counts (Holds tells files) paths old new (row_failed input false true ∷ []) a false refl ]
+
+  write_counted : Why WriteFault → failed_count true old < failed_count true new
+  write_counted w = after_counts (Holds tells files) paths old new (row_failed input false false ∷ row_failed output true true ∷ []) w.0 true refl
 
   pub err_read : (u : Unserved) → Why u → status ≡ unserved_status u → status ≡ 3 → failed_count false old < failed_count false new
   err_read WriteFault why is z = absurd (omega (arith, is))
-  err_read (NotLoaded unloaded.ReadFault) why is z = why.0
+  err_read (NotLoaded unloaded.ReadFault) why is z = read_counted why
   err_read (NotLoaded (unloaded.Refused fault)) why is z = absurd (omega (arith, is))
   err_read (NotLoaded unloaded.Memory) why is z = absurd (omega (arith, is))
 
@@ -200,20 +220,26 @@ module _ (words : List (List ℕ)) (tells : Bool) (files now : List ℕ → Opti
   err_read_line (NotLoaded (unloaded.Refused fault)) line is z = absurd (omega (arith, is))
   err_read_line (NotLoaded unloaded.Memory) line is z = absurd (omega (arith, is))
 
-  pub err_read_last : (u : Unserved) → Why u → status ≡ unserved_status u → status ≡ 3 → HasFailedLast false new
-  err_read_last WriteFault why is z = absurd (omega (arith, is))
-  err_read_last (NotLoaded unloaded.ReadFault) why is z = why.2
-  err_read_last (NotLoaded (unloaded.Refused fault)) why is z = absurd (omega (arith, is))
-  err_read_last (NotLoaded unloaded.Memory) why is z = absurd (omega (arith, is))
+  pub err_read_why : (u : Unserved) → Why u → status ≡ unserved_status u → status ≡ 3 → Told (NotLoaded unloaded.ReadFault)
+  err_read_why WriteFault why is z = absurd (omega (arith, is))
+  err_read_why (NotLoaded unloaded.ReadFault) why is z = told (NotLoaded unloaded.ReadFault) why
+  err_read_why (NotLoaded (unloaded.Refused fault)) why is z = absurd (omega (arith, is))
+  err_read_why (NotLoaded unloaded.Memory) why is z = absurd (omega (arith, is))
 
-  pub err_write_last : (u : Unserved) → Why u → status ≡ unserved_status u → status ≡ 4 → HasFailedLast true new
-  err_write_last WriteFault why is z = why.3
-  err_write_last (NotLoaded unloaded.ReadFault) why is z = absurd (omega (arith, is))
-  err_write_last (NotLoaded (unloaded.Refused fault)) why is z = absurd (omega (arith, is))
-  err_write_last (NotLoaded unloaded.Memory) why is z = absurd (omega (arith, is))
+  pub err_write_why : (u : Unserved) → Why u → status ≡ unserved_status u → status ≡ 4 → Told WriteFault
+  err_write_why WriteFault why is z = told WriteFault why
+  err_write_why (NotLoaded unloaded.ReadFault) why is z = absurd (omega (arith, is))
+  err_write_why (NotLoaded (unloaded.Refused fault)) why is z = absurd (omega (arith, is))
+  err_write_why (NotLoaded unloaded.Memory) why is z = absurd (omega (arith, is))
+
+  pub err_memory_why : (u : Unserved) → Why u → status ≡ unserved_status u → status ≡ 5 → Told (NotLoaded unloaded.Memory)
+  err_memory_why WriteFault why is z = absurd (omega (arith, is))
+  err_memory_why (NotLoaded unloaded.ReadFault) why is z = absurd (omega (arith, is))
+  err_memory_why (NotLoaded (unloaded.Refused fault)) why is z = absurd (omega (arith, is))
+  err_memory_why (NotLoaded unloaded.Memory) why is z = told (NotLoaded unloaded.Memory) why
 
   pub err_write : (u : Unserved) → Why u → status ≡ unserved_status u → status ≡ 4 → (failed_count true old < failed_count true new) ⊎ Rose before later
-  err_write WriteFault why is z = inl why.1
+  err_write WriteFault why is z = inl (write_counted why)
   err_write (NotLoaded unloaded.ReadFault) why is z = absurd (omega (arith, is))
   err_write (NotLoaded (unloaded.Refused fault)) why is z = absurd (omega (arith, is))
   err_write (NotLoaded unloaded.Memory) why is z = absurd (omega (arith, is))
@@ -231,10 +257,16 @@ module _ (words : List (List ℕ)) (tells : Bool) (files now : List ℕ → Opti
   err_memory_line (NotLoaded unloaded.Memory) line is z = line
 
   pub err_file : (u : Unserved) → Why u → Shows held after before later (unserved_line u) → status ≡ unserved_status u → status ≡ 6 → (fault : FaultCode) × RefusesFile words (Holds tells files) old new (Shows held after before later) fault
-  err_file (NotLoaded (unloaded.Refused fault)) why line is z = (fault, record { binary = binary; hardware = hardware; input = input; output = output; call = call; refused = why; printed = line })
+  err_file (NotLoaded (unloaded.Refused fault)) why line is z = (fault, record { paths = paths; input = input; output = output; call = call; refused = why.0; printed = line })
   err_file WriteFault why line is z = absurd (omega (arith, is))
   err_file (NotLoaded unloaded.ReadFault) why line is z = absurd (omega (arith, is))
   err_file (NotLoaded unloaded.Memory) why line is z = absurd (omega (arith, is))
+
+  pub err_kept : (u : Unserved) → Why u → status ≡ unserved_status u → status ≡ 6 → AreKept files now
+  err_kept (NotLoaded (unloaded.Refused fault)) why is z = why.1
+  err_kept WriteFault why is z = absurd (omega (arith, is))
+  err_kept (NotLoaded unloaded.ReadFault) why is z = absurd (omega (arith, is))
+  err_kept (NotLoaded unloaded.Memory) why is z = absurd (omega (arith, is))
 
   -- such a status is 3, 4, 5 or 6
   pub err_between : (u : Unserved) → status ≡ unserved_status u → (3 ≤ status) × (status ≤ 6)
@@ -244,19 +276,19 @@ module _ (words : List (List ℕ)) (tells : Bool) (files now : List ℕ → Opti
   err_between (NotLoaded unloaded.Memory) is = (omega (arith, is), omega (arith, is))
 
   pub err_usage : (u : Unserved) → status ≡ unserved_status u → (status ≡ 2) ↔ IsFaultyServe words
-  err_usage u is = (λ z. absurd (let b = err_between u is in omega (arith, b.0)), λ faulty. absurd (faulty binary hardware input output call))
+  err_usage u is = (λ z. absurd (let b = err_between u is in omega (arith, b.0)), λ faulty. absurd (faulty paths input output call))
 
   pub err_bad_file : (u : Unserved) → Why u → status ≡ unserved_status u → HasFaultyFile words files → (status ≡ 6) ⊎ ((status ≡ 3) ⊎ (status ≡ 5))
   err_bad_file WriteFault why is t =
-      absurd (inputs_faultless files tells binary hardware why.0.0 t.fault t.paths why.0.1 (same_serve words t.binary binary t.hardware hardware t.input input t.output output t.call call (λ b h i o. IsFirstFault (IsTold files) b h t.fault t.paths) t.first))
+      absurd (inputs_faultless files tells paths why.0.loaded t.fault t.read why.0.inputs (same_serve words t.paths paths t.input input t.output output t.call call (λ p i o. IsFirstFault (IsTold files) p t.fault t.read) t.first))
   err_bad_file (NotLoaded unloaded.ReadFault) why is t = inr (inl is)
   err_bad_file (NotLoaded (unloaded.Refused fault)) why is t = inl is
   err_bad_file (NotLoaded unloaded.Memory) why is t = inr (inr is)
 
   pub err_complete : (u : Unserved) → Why u → status ≡ unserved_status u → HasSoundFiles words files → failed_count false new ≡ failed_count false old → failed_count true new ≡ failed_count true old → (status ≡ 0) ⊎ ((status ≡ 7) ⊎ (status ≡ 5))
-  err_complete WriteFault why is t reads writes = absurd (omega (arith, why.1, writes))
-  err_complete (NotLoaded unloaded.ReadFault) why is t reads writes = absurd (omega (arith, why.0, reads))
+  err_complete WriteFault why is t reads writes = absurd (let more = write_counted why in omega (arith, more, writes))
+  err_complete (NotLoaded unloaded.ReadFault) why is t reads writes = absurd (let more = read_counted why in omega (arith, more, reads))
   err_complete (NotLoaded (unloaded.Refused fault)) why is t reads writes =
-      let first : IsFirstFault (Holds tells files) t.binary t.hardware fault why.paths = same_serve words binary t.binary hardware t.hardware input t.input output t.output call t.call (λ b h i o. IsFirstFault (Holds tells files) b h fault why.paths) why.first in
-      absurd (t.faultless fault why.paths (told_fault files tells t.binary t.hardware fault why.paths t.binary_told t.hardware_told first))
+      let first : IsFirstFault (Holds tells files) t.paths fault why.0.read = same_serve words paths t.paths input t.input output t.output call t.call (λ p i o. IsFirstFault (Holds tells files) p fault why.0.read) why.0.first in
+      absurd (t.faultless fault why.0.read (told_fault files tells t.paths fault why.0.read t.told first))
   err_complete (NotLoaded unloaded.Memory) why is t reads writes = inr (inr is)

@@ -3,32 +3,31 @@ use Rattle.std.proofs.Common.{◌≡◌, ℕ, suc, ◌+◌, ◌-◌, nat_lt, Boo
 use Rattle.std.specs.Prelude.{IsTrue, option_map}
 use Rattle.std.specs.Io.KnownBytes.{Appends}
 use Rattle.wc_io.specs.Causes.{Rose, HasCause}
-use Rattle.wc_io.specs.Lines.{LineResult, lines_of}
-use Rattle.wc_io.specs.Rows.{Row, marked, sink_at, path_at, IsRowOf, AddsRows}
+use Rattle.wc_io.specs.Lines.{lines_of}
+use Rattle.wc_io.specs.Rows.{Row, row_failed, marked, sink_at, path_at, IsRowOf}
+use Rattle.wc_io.specs.Telling.{TellsFile}
 use Rattle.wc_io.specs.Writing.{Writes}
-use Rattle.wc_io.proofs.RowLemmas.{marked_behind, rose_above, AddsRows_all}
+use Rattle.wc_io.proofs.RowLemmas.{marked_behind, rose_above}
 use Rattle.wc_model.specs.declared.elf_image.Image.{Image}
 use Rattle.wc_model.specs.declared.entries.Ended.{Ended}
 use Rattle.wc_model.specs.declared.entries.Ended.TheVariants as ended
 use Rattle.wc_model.specs.declared.entries.Entry.{Entry}
 use Rattle.wc_model.specs.declared.entries.Entry.TheVariants as entry
 use Rattle.wc_model.specs.declared.inputs.Edit.{Edit}
-use Rattle.wc_model.specs.declared.machine.Hardware.{Hardware}
 use Rattle.wc_model.specs.declared.values.Outcome.{Outcome}
 use Rattle.wc_model.specs.declared.values.Outcome.TheVariants as outcome
 use Rattle.wc_model.specs.Chain.{chain, bounded}
 use Rattle.wc_model.specs.Paths.{IsPath}
 use Rattle.wc_model.specs.Positions.{start_of}
 use Rattle.wc_model.specs.Edits.{Setting, edit_of, after_edits}
-use Rattle.wc_model.specs.History.{Opening, Chain, EachRight, IsRight, IsLegal, opening_entries}
-use Rattle.wc_session.specs.Served.{IsServed, Gains}
-use Rattle.wc_core.specs.Answers.{RunsNothing, AreRuns}
-use Rattle.wc_core.specs.Holds.{plain_opening}
+use Rattle.wc_model.specs.History.{Opening, EachRight, IsRight}
+use Rattle.wc_session.specs.Served.{Gains}
+use Rattle.wc_core.specs.Answers.{AreRuns}
 use Rattle.wcet.specs.declared.loading.Loaded.{Loaded}
 use Rattle.wcet.specs.Answers.{Shows}
 use Rattle.wcet.specs.Opening.{session_rows}
-use Rattle.wcet.specs.ServeCall.{IsUnreplied}
-use Rattle.wcet.specs.Session.{IsRun, IsSessionOver, covers}
+use Rattle.wcet.specs.ServeCall.{IsEmptied}
+use Rattle.wcet.specs.Session.{IsRun, IsSessionOver, covers, opening_of}
 
 -- a bound of the chain covers every path
 chain_covers : (inputs : Setting) (name : List ℕ) (result : Outcome) → chain inputs name result → covers inputs name result
@@ -53,18 +52,7 @@ pub all_covered : (image : Image) (edits : List Edit) (es : List Entry) → Each
 all_covered image edits [] right = tt
 all_covered image edits (e ∷ es) right = (covered image edits e right.0, all_covered image (edits ++ edit_of e) es right.1)
 
--- the history that a core hands back is that of its session
-pub left_run : (answers : Chain) (image : Image) (hardware : Hardware) (o now : Opening) (old new history : List Entry) (script : Option (List LineResult)) (held replies : Option (List ℕ)) (end : Ended)
-    → o ≡ plain_opening image hardware [] → now ≡ o → old ≡ opening_entries o → history ≡ new → IsLegal answers now new → IsServed 1 image old new script held replies end
-    → IsRun answers image hardware script held replies history end
-left_run answers image hardware o now old new history script held replies end first same begins is legal served = record {
-  legal = subst (λ (x : Opening). IsLegal answers x history) (same ∙ first) (subst (λ (h : List Entry). IsLegal answers now h) (sym is) legal);
-  served = subst (λ (h : List Entry). IsServed 1 image h history script held replies end) (begins ∙ ap opening_entries first) (subst (λ (h : List Entry). IsServed 1 image old h script held replies end) (sym is) served);
-}
-
-pub left_rests : (o now : Opening) (new history : List Entry) → now ≡ o → history ≡ new → RunsNothing now new → RunsNothing o history
-left_rests o now new history same is rests = subst (λ (x : Opening). RunsNothing x history) same (subst (λ (h : List Entry). RunsNothing now h) (sym is) rests)
-
+-- the runs of the one work that a core hands back
 one_of : {A : Type 0} (kind_of runs_of : A → ℕ) (works : List A) (d : A) (runs : ℕ) → map kind_of works ≡ 11 ∷ [] → runs ≡ runs_of (get_or works 0 d) → map runs_of works ≡ runs ∷ []
 one_of kind_of runs_of [] d runs one is = absurd (cc)
 one_of kind_of runs_of (w ∷ []) d runs one is = ap (λ (n : ℕ). n ∷ []) (sym is)
@@ -137,13 +125,13 @@ file_back between now held path output bytes is file empty told =
     let there = subst (λ (o : Option (List ℕ)). IfSome o (λ _. IfSome held (λ b. now output ≡ Some b))) empty (subst (λ (p : List ℕ). IfSome (between p) (λ _. IfSome held (λ b. now p ≡ Some b))) is file) in
     subst (λ (o : Option (List ℕ)). IfSome o (λ b. now output ≡ Some b)) told there ∙ sym told
 
-module _ (tells : Bool) (files between now : List ℕ → Option (List ℕ)) (input output : List ℕ) (old opened new : List Row) (is : opened ≡ old ++ session_rows input output 0 0) (emptied : IsTrue tells → between output ≡ Some []) where
-  module _ (source reads sink writes : ℕ) (at_source : source ≡ length old + 1) (at_sink : sink ≡ length old + 2) (marks : new ≡ marked (sink - 1) writes (marked (source - 1) reads opened)) (held replies : Option (List ℕ)) (empty : IsTrue tells → held ≡ Some [])
+module _ (tells : Bool) (files between now : List ℕ → Option (List ℕ)) (input output : List ℕ) (old opened new : List Row) (is : opened ≡ old ++ session_rows input output 0 0) (emptied : TellsFile tells (files output) → between output ≡ Some []) where
+  module _ (source reads sink writes : ℕ) (at_source : source ≡ length old + 1) (at_sink : sink ≡ length old + 2) (marks : new ≡ marked (sink - 1) writes (marked (source - 1) reads opened)) (held replies : Option (List ℕ)) (empty : TellsFile tells (files output) → held ≡ Some [])
       (file : IfSome (between (path_at (sink - 1) opened)) (λ _. IfSome replies (λ b. now (path_at (sink - 1) opened) ≡ Some b))) where
     pub session_over : (loaded : Loaded) (history : List Entry) (end : Ended) (left : Option (List ℕ)) (reads_before writes_before : ℕ) → reads_before ≡ 0 → writes_before ≡ 0
         → (IsTrue tells → IsSome (files input)) → IfSome (files input) (λ bytes. left ≡ Some bytes)
         → (end ≡ ended.ReadFault → Rose reads_before reads) → (end ≡ ended.WriteFault → Rose writes_before writes)
-        → IsRun chain loaded.image loaded.hardware (option_map lines_of left) held replies history end
+        → IsRun chain (opening_of loaded) (option_map lines_of left) held replies history end
         → IsSessionOver loaded tells files now input output old new history end
     session_over loaded history end left reads_before writes_before no_reads no_writes there script_here read write run = record {
       script = option_map lines_of left;
@@ -167,10 +155,10 @@ module _ (tells : Bool) (files between now : List ℕ → Option (List ℕ)) (in
         scripted (Some bytes) told = ap (option_map lines_of) told
 
     -- both came back without a session
-    pub nothing_ran : reads ≡ 0 → writes ≡ 0 → replies ≡ held → AddsRows ((input, false) ∷ (output, true) ∷ []) old new × IsUnreplied tells files now output
+    pub nothing_ran : reads ≡ 0 → writes ≡ 0 → replies ≡ held → (new ≡ old ++ row_failed input false false ∷ row_failed output true false ∷ []) × IsEmptied tells files now output
     nothing_ran no_reads no_writes same = (
-      AddsRows_all ((input, false) ∷ (output, true) ∷ []) [] old new (session_rows input output reads writes, rows_back old opened new input output source reads sink writes is at_source at_sink marks, refl),
-      λ told. inr (file_back between now replies (path_at (sink - 1) opened) output [] (sink_path old opened input output sink is at_sink) file (emptied told) (same ∙ empty told) ∙ same ∙ empty told),
+      rows_back old opened new input output source reads sink writes is at_source at_sink marks ∙ ap (λ (n : ℕ). old ++ session_rows input output n writes) no_reads ∙ ap (λ (n : ℕ). old ++ session_rows input output 0 n) no_writes,
+      λ told. file_back between now replies (path_at (sink - 1) opened) output [] (sink_path old opened input output sink is at_sink) file (emptied told) (same ∙ empty told) ∙ same ∙ empty told,
     )
 
 -- a line that was written, or not wholly

@@ -1,19 +1,19 @@
 -- The runs of the one work are the starts of a history in which no run is out.
-use Rattle.std.proofs.Common.{◌≡◌, ℕ, zero, suc, ◌+◌, ◌==◌, Bool, true, false, not, ◌&&◌, ◌||◌, is_none, List, [], ◌∷◌, ◌++◌, take, drop, Option, None, Some, refl, sym, ap, subst, ◌∙◌, arith, if◌then◌else◌, eqb-true}
+use Rattle.std.proofs.Common.{◌≡◌, ℕ, zero, suc, ◌+◌, ◌==◌, Bool, true, false, not, ◌&&◌, ◌||◌, is_none, List, [], ◌∷◌, ◌++◌, take, drop, length, Option, None, Some, refl, sym, ap, subst, ◌∙◌, arith, if◌then◌else◌, eqb-true, take-append-drop}
 use Rattle.std.specs.Prelude.{All}
 use Rattle.wc_model.specs.declared.elf_image.Image.{Image}
 use Rattle.wc_model.specs.declared.entries.End.{End}
 use Rattle.wc_model.specs.declared.entries.Entry.{Entry}
 use Rattle.wc_model.specs.declared.entries.Entry.TheVariants as entry
+use Rattle.wc_model.specs.declared.flow_facts.Fact.{Fact}
 use Rattle.wc_model.specs.declared.machine.Hardware.{Hardware}
 use Rattle.wc_model.specs.declared.values.Outcome.{Outcome}
 use Rattle.wc_model.specs.Closures.{has_kind, order_of}
-use Rattle.wc_model.specs.History.{Opening, State, Run, Ask, bound_kind, start, step, replay, opening_entries, home_of, with_home, own_run, without_own, open_ask, allow, is_free, can_start, after_start, start_step, can_finish, after_finish, finish_step, can_answer, answer_step, same_name, stamp_at, count_of, inputs_at, within_reach, all_within_reach, before, is_out, right_end, taken, with_ask, can_edit, is_live, after_edit, after_pin}
+use Rattle.wc_model.specs.History.{Opening, State, Run, Ask, bound_kind, start, step, replay, opened, opening_entries, fact_entries, home_of, with_home, own_run, without_own, open_ask, allow, is_free, can_start, after_start, start_step, can_finish, after_finish, finish_step, can_answer, answer_step, same_name, stamp_at, count_of, inputs_at, within_reach, all_within_reach, before, is_out, right_end, taken, with_ask, can_edit, is_live, after_edit, after_pin}
 use Rattle.wc_core.specs.Answers.{RunsNothing, AreRuns}
 use Rattle.wc_core.specs.Features.{Each}
 use Rattle.wc_core.specs.Holds.{bound_alone, plain_opening}
-use Rattle.wc_core.proofs.Cores.{some_same}
-use Rattle.wc_core.proofs.Turning.{if_some}
+use Rattle.wc_core.proofs.OpenAsks.{some_same, if_some}
 use Rattle.wcet.specs.ReportText.{IsOfKinds}
 use Rattle.wcet.specs.Starts.{starts_of, all_starts, bound_runs}
 
@@ -252,23 +252,31 @@ all_of_kinds [] each k d within = absurd (omega arith)
 all_of_kinds (e ∷ es) each zero d within = is_of_kinds e each.0
 all_of_kinds (e ∷ es) each (suc k) d within = all_of_kinds es each.1 k d (omega arith)
 
--- the opening entries and then those that are replayed
-split : (image : Image) (hardware : Hardware) (history : List Entry) → take 1 history ≡ opening_entries (plain_opening image hardware []) → history ≡ opening_entries (plain_opening image hardware []) ++ drop 1 history
-split image hardware [] begins = absurd (cc)
-split image hardware (e ∷ es) begins = ap (λ (xs : List Entry). xs ++ es) begins
+-- the opening edits start nothing
+opened_each : (count : ℕ) (facts : List Fact) (es : List Entry) → Each IsBoundEntry es → Each IsBoundEntry (fact_entries count facts ++ es)
+opened_each count [] es each = each
+opened_each count (f ∷ fs) es each = (tt, opened_each (count + 1) fs es each)
 
-module _ (image : Image) (hardware : Hardware) (history : List Entry) (begins : take 1 history ≡ opening_entries (plain_opening image hardware [])) (rests : RunsNothing (plain_opening image hardware []) history) where
+opened_in : (count : ℕ) (facts : List Fact) (es : List Entry) → all_in (fact_entries count facts ++ es) ≡ all_in es
+opened_in count [] es = refl
+opened_in count (f ∷ fs) es = let more = opened_in (count + 1) fs es in omega (arith, more)
+
+-- the opening entries and then those that are replayed
+split : (o : Opening) (history : List Entry) → take (opened o) history ≡ opening_entries o → history ≡ opening_entries o ++ drop (opened o) history
+split o history begins = sym (take-append-drop (opened o) history) ∙ ap (λ (xs : List Entry). xs ++ drop (opened o) history) begins
+
+module _ (image : Image) (hardware : Hardware) (facts : List Fact) (history : List Entry) (begins : take (length facts + 1) history ≡ opening_entries (plain_opening image hardware facts)) (rests : RunsNothing (plain_opening image hardware facts) history) where
   abbrev o : Opening
-  o = plain_opening image hardware []
+  o = plain_opening image hardware facts
 
   fresh : Tally (start o) 0
   fresh = record { runs = 0 ∷ []; home_is = refl; alone = tt; count = omega arith }
 
-  all : Tally rests.st (0 + all_in (drop 1 history)) × Each IsBoundEntry (drop 1 history)
-  all = tallied o refl (drop 1 history) (start o) rests.st 0 fresh rests.state
+  all : Tally rests.st (0 + all_in (drop (opened o) history)) × Each IsBoundEntry (drop (opened o) history)
+  all = tallied o refl (drop (opened o) history) (start o) rests.st 0 fresh rests.state
 
   each : Each IsBoundEntry history
-  each = subst (Each IsBoundEntry) (sym (split image hardware history begins)) (tt, all.1)
+  each = subst (Each IsBoundEntry) (sym (split o history begins)) (tt, opened_each 2 facts (drop (opened o) history) all.1)
 
   pub kinds_known : All IsOfKinds history
   kinds_known = all_of_kinds history each
@@ -277,7 +285,7 @@ module _ (image : Image) (hardware : Hardware) (history : List Entry) (begins : 
   starts_known runs are =
       let one : runs ∷ [] ≡ all.0.runs = are rests.st rests.state ∙ home_runs rests.st.home all.0.runs bound_kind refl all.0.home_is in
       let started : runs ≡ all_in history =
-      omega (arith, ap total one, all.0.count, ap flying rests.none, ap all_in (split image hardware history begins)) in
+      omega (arith, ap total one, all.0.count, ap flying rests.none, ap all_in (split o history begins), opened_in 2 facts (drop (opened o) history)) in
       let last : starts_of 11 history ≡ runs = bound_starts history each ∙ sym started in
       let none = λ (kind : ℕ) (other : (bound_kind == kind) ≡ false). other_starts kind history other each in
       sym (eleven (none 1 refl) (none 2 refl) (none 3 refl) (none 4 refl) (none 5 refl) (none 6 refl) (none 7 refl) (none 8 refl) (none 9 refl) (none 10 refl) last)

@@ -3,14 +3,13 @@ use Rattle.std.specs.Prelude.{◌≡◌, ◌≤◌, ℕ, Bool, true, false, List
 use Rattle.wc_core.specs.Holds.{plain_opening}
 use Rattle.wc_io.specs.Lines.{LineResult, lines_of}
 use Rattle.wc_io.specs.Rows.{Row, row_failed}
+use Rattle.wc_io.specs.Telling.{TellsFile}
 use Rattle.wc_model.specs.declared.entries.Ended.{Ended}
 use Rattle.wc_model.specs.declared.entries.Ended.TheVariants.{ReadFault, WriteFault}
 use Rattle.wc_model.specs.declared.entries.Entry.{Entry}
-use Rattle.wc_model.specs.declared.elf_image.Image.{Image}
-use Rattle.wc_model.specs.declared.machine.Hardware.{Hardware}
 use Rattle.wc_model.specs.declared.values.Outcome.TheVariants.{Bound, Fault, Memory}
 use Rattle.wc_model.specs.Chain.{chain}
-use Rattle.wc_model.specs.History.{Chain, EachRight, IsLegal, opening_entries}
+use Rattle.wc_model.specs.History.{Opening, Chain, EachRight, IsLegal, opening_entries}
 use Rattle.wc_model.specs.Paths.{IsPath, path_cycles}
 use Rattle.wc_model.specs.Positions.{start_of}
 use Rattle.wc_model.specs.Steps.{Step}
@@ -19,6 +18,7 @@ use Rattle.wc_session.specs.Served.{IsServed}
 use Rattle.wcet.specs.declared.loading.Loaded.{Loaded}
 use Rattle.wcet.specs.Files.{Holds, AreInputs, paths_of}
 use Rattle.wcet.specs.Loading.{OpensAll}
+use Rattle.wcet.specs.Words.{Paths}
 
 -- a bound is at least the cycles of every path of the named function on these inputs
 abbrev pub covers : Chain
@@ -28,10 +28,14 @@ covers inputs name (Bound bound) =
 covers inputs name (Fault fault) = Unit {0}
 covers inputs name Memory = Unit {0}
 
--- What a session leaves over these inputs: its history is legal, and its replies are those of the lines that were read.
-pub record IsRun (answers : Chain) (image : Image) (hardware : Hardware) (script : Option (List LineResult)) (held replies : Option (List ℕ)) (history : List Entry) (end : Ended) : Type 0 where
-  pub legal : IsLegal answers (plain_opening image hardware []) history
-  pub served : IsServed 1 image (opening_entries (plain_opening image hardware [])) history script held replies end
+-- the workspace that is opened with what the files of a call say
+abbrev pub opening_of : Loaded → Opening
+opening_of loaded = plain_opening loaded.image loaded.hardware loaded.facts.items
+
+-- What a session leaves of a workspace: its history is legal, and its replies are those of the lines that were read.
+pub record IsRun (answers : Chain) (o : Opening) (script : Option (List LineResult)) (held replies : Option (List ℕ)) (history : List Entry) (end : Ended) : Type 0 where
+  pub legal : IsLegal answers o history
+  pub served : IsServed 1 o.image (opening_entries o) history script held replies end
 
 -- The same between opening and giving back the two files of a session: the script is that of IN, and the replies stand
 -- in OUT. A read or a write failed only where the row of IN or of OUT says so.
@@ -41,9 +45,9 @@ pub record IsSessionOver (loaded : Loaded) (tells : Bool) (files now : List ℕ 
   pub script_told : IsTrue tells → IsSome (files input)
   pub held : Option (List ℕ)
   pub replies : Option (List ℕ)
-  pub empty : IsTrue tells → held ≡ Some []
-  pub output_is : IsTrue tells → now output ≡ replies
-  pub run : IsRun chain loaded.image loaded.hardware script held replies history end
+  pub empty : TellsFile tells (files output) → held ≡ Some []
+  pub output_is : TellsFile tells (files output) → now output ≡ replies
+  pub run : IsRun chain (opening_of loaded) script held replies history end
   pub bounds : EachRight covers loaded.image [] history
   pub read_failed : Bool
   pub write_failed : Bool
@@ -52,9 +56,9 @@ pub record IsSessionOver (loaded : Loaded) (tells : Bool) (files now : List ℕ 
   pub write_fault : end ≡ WriteFault → write_failed ≡ true
 
 -- The session over what the files of a call say.
-pub record IsSession (tells : Bool) (files now : List ℕ → Option (List ℕ)) (binary : List ℕ) (hardware : Option (List ℕ)) (input output : List ℕ) (old new : List Row) (history : List Entry) (end : Ended) : Type 0 where
+pub record IsSession (tells : Bool) (files now : List ℕ → Option (List ℕ)) (paths : Paths) (input output : List ℕ) (old new : List Row) (history : List Entry) (end : Ended) : Type 0 where
   pub loaded : Loaded
-  pub inputs : AreInputs (Holds tells files) binary hardware loaded
+  pub inputs : AreInputs (Holds tells files) paths loaded
   pub before : List Row
-  pub opened : OpensAll (paths_of binary hardware) old before
+  pub opened : OpensAll (paths_of paths) old before
   pub session : IsSessionOver loaded tells files now input output before new history end

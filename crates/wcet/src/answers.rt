@@ -1,4 +1,4 @@
-ghost use Rattle.std.specs.Prelude.{◌≡◌, ◌⊎◌, MatchBool};
+ghost use Rattle.std.specs.Prelude.{◌≡◌, ◌≤◌, ◌⊎◌, MatchBool};
 ghost use Rattle.std.specs.Io.KnownBytes.{Appends};
 ghost use Rattle.wc_io.specs.Causes.{Rose, HasCause};
 ghost use Rattle.wc_io.specs.Writing.{AppendsPart, Writes};
@@ -35,6 +35,7 @@ impl From<Unloaded> for Answer {
 fn write_answer<K: Sink>(out: &mut K, name: &str, answer: &Answer) -> Result<(), Failed>
     ensures text { Writes (K.held out.old) (K.held out.new) result (line_of name.now answer.now) }
     ensures cause { HasCause (K.faults out.old) (K.faults out.new) result }
+    ensures place { K.place out.new ≡ K.place out.old }
 {
     match *answer {
         Answer::Usage => write_pieces(out, &[Piece::Bytes(b"usage\n")]),
@@ -82,7 +83,9 @@ fn status(answer: &Answer, written: bool) -> Status
 
 /// Prints the answer's line, and tells the status: 4 where a line of an outcome wasn't written.
 pub fn finish<K: Sink>(out: &mut K, name: &str, answer: &Answer) -> Status
-    ensures { Finishes name.now answer.now (K.held out.old) (K.held out.new) (K.faults out.old) (K.faults out.new) result }
+    ensures line { Finishes name.now answer.now (K.held out.old) (K.held out.new) (K.faults out.old) (K.faults out.new) result }
+    ensures place { K.place out.new ≡ K.place out.old }
+    ensures faults { K.faults out.old ≤ K.faults out.new }
 {
     let written = write_answer(out, name, answer).is_ok();
     status(answer, written)

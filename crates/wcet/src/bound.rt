@@ -1,15 +1,14 @@
-ghost use Rattle.std.specs.Prelude.{◌≡◌, ◌<◌, ◌≤◌, ◌↔◌, ◌⊎◌, ℕ, List, [], codes, map, option_map, string_bytes, false, IfOk};
+ghost use Rattle.std.specs.Prelude.{◌≡◌, ◌<◌, ◌≤◌, ◌↔◌, ◌⊎◌, ℕ, List, codes, map, string_bytes, false, IfOk};
 ghost use Rattle.std.specs.Io.KnownBytes.{Appends};
 ghost use Rattle.wc_base.specs.declared.faults.Fault.{Fault as FaultCode};
 ghost use Rattle.wc_io.specs.Causes.{Rose};
 ghost use Rattle.wc_io.specs.Rows.{failed_count};
 ghost use Rattle.wc_io.specs.Writing.{AppendsPart};
-ghost use Rattle.wc_model.specs.declared.values.Outcome.{Outcome as OutcomeOf};
 ghost use Rattle.wc_model.specs.Chain.{IsChain};
 ghost use Rattle.wcet.specs.Answers.{Shows};
-ghost use Rattle.wcet.specs.BoundCall.{Explains, Prints, Refuses, HasFault, AreSound, Opens, StopsReading};
+ghost use Rattle.wcet.specs.BoundCall.{Explains, Prints, Refuses, RunsOut, HasFault, AreSound, Opens, StopsReading};
 ghost use Rattle.wcet.specs.Files.{Holds};
-ghost use Rattle.wcet.specs.Words.{IsFaultyCall};
+ghost use Rattle.wcet.specs.Words.{IsFaultyCall, paths_in};
 
 use crate::Status;
 use crate::answers::{Answer, finish};
@@ -19,12 +18,24 @@ use crate::words::{BoundCall, bound_call};
 use std::alloc::{AllocError, Global};
 use std::thread::Threads;
 use wc_io::{House, Sink};
-use wc_model::{Outcome, Table};
+use wc_model::{Fact, Facts, Outcome};
 
-fn outcome_of(alloc: Global, loaded: &Loaded, name: &str) -> Result<Outcome, AllocError>
-    ensures { IfOk result (IsChain loaded.now.image [] loaded.now.hardware name.now) }
+// The facts with the numbers that they have where a workspace is opened: edit 1 is the hardware.
+fn numbered(alloc: Global, facts: Vec<Fact>) -> Result<Facts, AllocError>
+    ensures { IfOk result (λ numbered. map (λ f. f.1) numbered ≡ facts.items) }
 {
-    let facts = Table::new(Vec::new(alloc));
+    let mut items = Vec::with_capacity(alloc, facts.len())?;
+    for fact in facts {
+        let number = items.len() as u64 + 2;
+        items.push((number, fact))?;
+    }
+    Ok(Facts::new(items))
+}
+
+fn outcome_of(alloc: Global, loaded: Loaded, name: &str) -> Result<Outcome, AllocError>
+    ensures { IfOk result (IsChain loaded.image loaded.facts.items loaded.hardware name.now) }
+{
+    let facts = numbered(alloc, loaded.facts)?;
     chain(
         alloc,
         &loaded.image,
@@ -35,11 +46,12 @@ fn outcome_of(alloc: Global, loaded: &Loaded, name: &str) -> Result<Outcome, All
 }
 
 fn answer_to<H: House>(alloc: Global, call: &BoundCall, house: &mut H) -> Answer
-    ensures answer { Explains (Holds (H.tells house.old) (H.file house.old)) call.now.binary.now (option_map (λ p. p.now) call.now.hardware) call.now.name.now (H.opened house.old) (H.opened house.new) result }
+    ensures answer { Explains (Holds (H.tells house.old) (H.file house.old)) (paths_in call.now.paths) call.now.name.now (H.opened house.old) (H.opened house.new) result }
     ensures files { (p : List ℕ) → H.file house.new p ≡ H.file house.old p }
+    ensures tells { H.tells house.new ≡ H.tells house.old }
 {
-    match load(alloc, house, call.binary, call.hardware) {
-        Ok(loaded) => match outcome_of(alloc, &loaded, call.name) {
+    match load(alloc, house, &call.paths) {
+        Ok(loaded) => match outcome_of(alloc, loaded, call.name) {
             Ok(outcome) => Answer::Analysed(outcome),
             Err(AllocError) => Answer::Memory,
         },
@@ -47,7 +59,7 @@ fn answer_to<H: House>(alloc: Global, call: &BoundCall, house: &mut H) -> Answer
     }
 }
 
-/// `bound BINARY - HARDWARE FUNCTION`: the bound of one function in cycles, by the fresh sequential chain.
+/// `bound BINARY FACTS HARDWARE FUNCTION`: the bound of one function in cycles, by the fresh sequential chain.
 pub fn bound_once<R: Threads + Sync, H: House, K: Sink>(
     rt: &R,
     alloc: Global,
@@ -70,12 +82,13 @@ pub fn bound_once<R: Threads + Sync, H: House, K: Sink>(
 
     // 4: only where the output failed.
     ensures write { result ≡ 4 → Rose (K.faults out.old) (K.faults out.new) }
-    ensures write_line { result ≡ 4 → (outcome : OutcomeOf) × Prints (map string_bytes words.now) (Holds (H.tells house.old) (H.file house.old)) (H.opened house.old) (H.opened house.new) (AppendsPart (K.held out.old) (K.held out.new)) outcome }
+    ensures write_line { result ≡ 4 → ((cycles : ℕ) × Prints (map string_bytes words.now) (Holds (H.tells house.old) (H.file house.old)) (H.opened house.old) (H.opened house.new) (AppendsPart (K.held out.old) (K.held out.new)) (Outcome.Bound cycles)) ⊎ ((fault : FaultCode) × Prints (map string_bytes words.now) (Holds (H.tells house.old) (H.file house.old)) (H.opened house.old) (H.opened house.new) (AppendsPart (K.held out.old) (K.held out.new)) (Outcome.Fault fault)) }
 
-    // 5: want of memory, which may come at any time.
+    // 5: want of memory, which may come at any time; the files before the last one that was asked for have no fault.
+    ensures memory { result ≡ 5 → RunsOut (map string_bytes words.now) (Holds (H.tells house.old) (H.file house.old)) (H.opened house.old) (H.opened house.new) }
     ensures memory_line { result ≡ 5 → Shows (K.held out.old) (K.held out.new) (K.faults out.old) (K.faults out.new) (codes "memory\n") }
 
-    // 6: exactly where a file has a fault, the binary's before the hardware's.
+    // 6: exactly where a file has a fault, the binary's before the hardware's, and that before the facts'.
     ensures file { result ≡ 6 → (fault : FaultCode) × Refuses (map string_bytes words.now) (Holds (H.tells house.old) (H.file house.old)) (H.opened house.old) (H.opened house.new) (Shows (K.held out.old) (K.held out.new) (K.faults out.old) (K.faults out.new)) fault }
     ensures bad_file { HasFault (map string_bytes words.now) (H.file house.old) → (result ≡ 6) ⊎ ((result ≡ 3) ⊎ (result ≡ 5)) }
 
@@ -86,6 +99,9 @@ pub fn bound_once<R: Threads + Sync, H: House, K: Sink>(
     ensures opened { Opens (map string_bytes words.now) (H.opened house.old) (H.opened house.new) }
     ensures unopened { IsFaultyCall (map string_bytes words.now) → H.opened house.new ≡ H.opened house.old }
     ensures files { (p : List ℕ) → H.file house.new p ≡ H.file house.old p }
+    ensures tells { H.tells house.new ≡ H.tells house.old }
+    ensures place { K.place out.new ≡ K.place out.old }
+    ensures faults { K.faults out.old ≤ K.faults out.new }
 {
     match bound_call(words) {
         None => finish(out, "", &Answer::Usage),

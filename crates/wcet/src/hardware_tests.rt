@@ -112,7 +112,7 @@ fn a_long_hardware_file_is_refused(rt: HostRuntime) -> Result<(), Fail> {
 }
 
 // Whether the house was asked for these paths, in this order, each as a source.
-fn are_opened(house: &MemoryHouse, paths: &[&str]) -> bool {
+pub fn are_opened(house: &MemoryHouse, paths: &[&str]) -> bool {
     house.opened.len() == paths.len()
         && house
             .opened

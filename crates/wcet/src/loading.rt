@@ -1,25 +1,30 @@
 //! The files of a call, read and decoded one after the other.
 ghost use Rattle.std.specs.Prelude.{◌≡◌, ℕ, List, option_map};
-ghost use Rattle.wc_base.specs.declared.faults.FileWord.TheVariants.{Binary, Hardware as HardwareFile};
+ghost use Rattle.std.specs.List.{list_all};
+ghost use Rattle.wc_base.specs.declared.faults.FileWord.TheVariants.{Binary};
 ghost use Rattle.wc_model.specs.Edits.{default_hardware as default_hardware_of};
-ghost use Rattle.wcet.specs.Files.{Holds, Within, ImageSays, TimingSays};
-ghost use Rattle.wcet.specs.Loading.{AreBytes, Decodes, LoadsFile, LoadsHardware, Loads};
+ghost use Rattle.wcet.specs.Files.{FactsFileSays, FactsSay, HardwareSays, Holds, ImageSays, TimingSays, Within, is_checksum};
+ghost use Rattle.wcet.specs.Loading.{AreBytes, Decodes, LoadsFile, LoadsOptional, Loads, listed};
+ghost use Rattle.wcet.specs.Words.{paths_in};
 
+use crate::words::InputPaths;
 use std::alloc::Global;
 use wc_base::{Fault, FileWord, Trouble, UnbuiltWord};
 use wc_elf::read_image;
+use wc_f4::read_facts;
 use wc_hw::read_hardware;
 use wc_io::{House, ReadFile, read_file};
-use wc_model::{Cycles, Hardware, Image};
+use wc_model::{Cycles, Fact, Hardware, Image};
 
 /// The longest file that is read, in bytes.
 pub const MOST_BYTES: usize = 16_777_216;
 
-/// What the files of a call say: the program, and the timing of its processor.
+/// What the files of a call say: the program, the timing of its processor, and what is known of its flow.
 #[derive(Drop)]
 pub struct Loaded {
     pub image: Image,
     pub hardware: Hardware,
+    pub facts: Vec<Fact>,
 }
 
 /// Why a file wasn't loaded.
@@ -95,6 +100,34 @@ fn decode_hardware(alloc: Global, bytes: &[u8]) -> Result<Hardware, Unloaded>
     }
 }
 
+fn is_checksum(fact: &Fact) -> bool
+    ensures { result ≡ is_checksum fact.now }
+{
+    matches!(fact, Fact::Checksum { .. })
+}
+
+fn are_checksums(facts: &[Fact]) -> bool
+    ensures { result ≡ list_all is_checksum facts.now }
+{
+    facts.iter().all(|fact| is_checksum(fact))
+}
+
+fn decode_facts(alloc: Global, bytes: &[u8], image: &Image) -> Result<Vec<Fact>, Unloaded>
+    ensures { Decodes (FactsSay image.now) bytes.now (listed result) }
+{
+    match read_facts(alloc, bytes, image) {
+        Ok(facts) => {
+            if are_checksums(facts.as_slice()) {
+                Ok(facts)
+            } else {
+                Err(Unloaded::Refused(Fault::Unbuilt(UnbuiltWord::Facts)))
+            }
+        }
+        Err(Trouble::Fault(fault)) => Err(Unloaded::Refused(fault)),
+        Err(Trouble::Memory(_)) => Err(Unloaded::Memory),
+    }
+}
+
 /// The image of a binary.
 pub fn load_binary<H: House>(alloc: Global, house: &mut H, path: &str) -> Result<Image, Unloaded>
     ensures file { LoadsFile (Holds (H.tells house.old) (H.file house.old) path.now) (Within Binary ImageSays) path.now (H.opened house.old) (H.opened house.new) result }
@@ -113,7 +146,7 @@ pub fn load_hardware<H: House>(
     house: &mut H,
     path: Option<&str>,
 ) -> Result<Hardware, Unloaded>
-    ensures file { LoadsHardware (Holds (H.tells house.old) (H.file house.old)) (option_map (λ p. p.now) path.entry) (H.opened house.old) (H.opened house.new) result }
+    ensures file { LoadsOptional (HardwareSays (Holds (H.tells house.old) (H.file house.old))) (option_map (λ p. p.now) path.entry) (H.opened house.old) (H.opened house.new) result }
     ensures files { (p : List ℕ) → H.file house.new p ≡ H.file house.old p }
     ensures tells { H.tells house.new ≡ H.tells house.old }
 {
@@ -126,23 +159,46 @@ pub fn load_hardware<H: House>(
     }
 }
 
-/// The binary and then the hardware, or the first reason why there is none.
-pub fn load<H: House>(
+/// The facts that a file states, which are checksums, or none where no path is given. Names are those of the image.
+pub fn load_facts<H: House>(
     alloc: Global,
     house: &mut H,
-    binary: &str,
-    hardware: Option<&str>,
-) -> Result<Loaded, Unloaded>
-    ensures inputs { Loads (Holds (H.tells house.old) (H.file house.old)) binary.now (option_map (λ p. p.now) hardware.entry) (H.opened house.old) (H.opened house.new) result }
+    path: Option<&str>,
+    image: &Image,
+) -> Result<Vec<Fact>, Unloaded>
+    ensures file { LoadsOptional (FactsFileSays (Holds (H.tells house.old) (H.file house.old)) image.now) (option_map (λ p. p.now) path.entry) (H.opened house.old) (H.opened house.new) (listed result) }
     ensures files { (p : List ℕ) → H.file house.new p ≡ H.file house.old p }
     ensures tells { H.tells house.new ≡ H.tells house.old }
 {
-    let image = match load_binary(alloc, house, binary) {
+    let Some(path) = path else {
+        return Ok(Vec::new(alloc));
+    };
+    match load_bytes(alloc, house, path, FileWord::Facts) {
+        Ok(bytes) => decode_facts(alloc, bytes.as_slice(), image),
+        Err(unloaded) => Err(unloaded),
+    }
+}
+
+/// The binary, then the hardware and then the facts, or the first reason why there are none.
+pub fn load<H: House>(alloc: Global, house: &mut H, paths: &InputPaths) -> Result<Loaded, Unloaded>
+    ensures inputs { Loads (Holds (H.tells house.old) (H.file house.old)) (paths_in paths.now) (H.opened house.old) (H.opened house.new) result }
+    ensures files { (p : List ℕ) → H.file house.new p ≡ H.file house.old p }
+    ensures tells { H.tells house.new ≡ H.tells house.old }
+{
+    let image = match load_binary(alloc, house, paths.binary) {
         Ok(image) => image,
         Err(unloaded) => return Err(unloaded),
     };
-    match load_hardware(alloc, house, hardware) {
-        Ok(hardware) => Ok(Loaded { image, hardware }),
+    let hardware = match load_hardware(alloc, house, paths.hardware) {
+        Ok(hardware) => hardware,
+        Err(unloaded) => return Err(unloaded),
+    };
+    match load_facts(alloc, house, paths.facts, &image) {
+        Ok(facts) => Ok(Loaded {
+            image,
+            hardware,
+            facts,
+        }),
         Err(unloaded) => Err(unloaded),
     }
 }

@@ -5,12 +5,16 @@ mod answers;
 mod bound;
 mod chain;
 #[cfg(test)]
+mod facts_tests;
+#[cfg(test)]
 mod hardware_tests;
 mod loading;
 mod opening;
 mod report;
 mod running;
 mod serve;
+#[cfg(test)]
+mod serve_facts_tests;
 #[cfg(test)]
 mod serve_tests;
 #[cfg(test)]

@@ -1,6 +1,7 @@
 //! The script and the replies' sink of a session, opened and given back.
 ghost use Rattle.std.specs.Prelude.{◌≡◌, ◌≢◌, ℕ, ◌+◌, ◌-◌, List, [], Some, length, true, false, IfOk, OnOk, OnErr, IfSome, IsSome, IsTrue};
 ghost use Rattle.wc_io.specs.Rows.{IsRowOf, marked, path_at};
+ghost use Rattle.wc_io.specs.Telling.{TellsFile};
 ghost use Rattle.wcet.specs.Opening.{OpensBoth};
 
 use wc_io::{House, HouseError};
@@ -31,8 +32,8 @@ pub fn open<H: House>(
     ensures sink { IfOk result (λ o. (H.Sink.place o.sink ≡ length (H.opened house.old) + 2) × (H.Sink.faults o.sink ≡ 0)) }
     ensures there { OnOk result (IsTrue (H.tells house.old) → IsSome (H.file house.old input.now)) }
     ensures script { IfOk result (λ o. IfSome (H.file house.old input.now) (λ bytes. H.Source.left o.source ≡ Some bytes)) }
-    ensures held { IfOk result (λ o. IsTrue (H.tells house.old) → H.Sink.held o.sink ≡ Some []) }
-    ensures emptied { OnOk result (IsTrue (H.tells house.old) → H.file house.new output.now ≡ Some []) }
+    ensures held { IfOk result (λ o. TellsFile (H.tells house.old) (H.file house.old output.now) → H.Sink.held o.sink ≡ Some []) }
+    ensures emptied { OnOk result (TellsFile (H.tells house.old) (H.file house.old output.now) → H.file house.new output.now ≡ Some []) }
     ensures kept { OnErr result ((p : List ℕ) → H.file house.new p ≡ H.file house.old p) }
     ensures others { (p : List ℕ) → p ≢ output.now → H.file house.new p ≡ H.file house.old p }
     ensures tells { H.tells house.new ≡ H.tells house.old }

@@ -2,13 +2,13 @@
 ghost use Rattle.std.specs.Prelude.{◌≡◌, ◌≤◌, ◌∷◌, [], false, map, option_map, All, IfOk, IfErr};
 ghost use Rattle.wc_core.specs.Answers.{AreRuns, LeavesFree, RunsNothing};
 ghost use Rattle.wc_core.specs.Features.{Each};
-ghost use Rattle.wc_core.specs.Holds.{bound_alone, plain_opening};
+ghost use Rattle.wc_core.specs.Holds.{bound_alone};
 ghost use Rattle.wc_io.specs.Causes.{Rose};
 ghost use Rattle.wc_io.specs.Lines.{lines_of};
 ghost use Rattle.wc_model.specs.Chain.{chain};
 ghost use Rattle.wc_model.specs.History.{IsLegal, opening_entries};
 ghost use Rattle.wcet.specs.ReportText.{IsOfKinds};
-ghost use Rattle.wcet.specs.Session.{IsRun};
+ghost use Rattle.wcet.specs.Session.{IsRun, opening_of};
 ghost use Rattle.wcet.specs.Starts.{all_starts, bound_runs};
 
 use crate::loading::Loaded;
@@ -30,7 +30,7 @@ pub struct Ran<S: Source + Drop, K: Sink + Drop> {
     pub sink: K,
 }
 
-// A core over the loaded inputs, without facts and for one session.
+// A core over the loaded inputs, for one session.
 fn core_over<W: Work>(
     alloc: Global,
     loaded: Loaded,
@@ -41,16 +41,21 @@ fn core_over<W: Work>(
     requires runs { map W.runs_of works.items ≡ 0 ∷ [] }
     requires ready { Each W.may_run works.items }
     ensures image { IfOk result (λ r. r.1.value ≡ loaded.image) }
-    ensures opening { IfOk result (λ r. r.0.opening ≡ plain_opening loaded.image loaded.hardware []) }
+    ensures opening { IfOk result (λ r. r.0.opening ≡ opening_of loaded) }
     ensures history { IfOk result (λ r. r.0.history ≡ opening_entries r.0.opening) }
     ensures legal { IfOk result (λ r. IsLegal W.chain r.0.opening r.0.history) }
     ensures free { IfOk result (λ r. LeavesFree r.0.opening r.0.history 1) }
+    ensures alone { IfOk result (λ r. r.0.opening.sessions ≡ 1) }
 {
-    let Loaded { image, hardware } = loaded;
+    let Loaded {
+        image,
+        hardware,
+        facts,
+    } = loaded;
     let image = Arc::new(alloc, image)?;
     let shared = Arc::try_clone(&image)?;
     let kinds = bound_describes(alloc)?;
-    let core = Core::new(alloc, shared, kinds, works, hardware, Vec::new(alloc), 1)?;
+    let core = Core::new(alloc, shared, kinds, works, hardware, facts, 1)?;
     Ok((core, image))
 }
 
@@ -63,12 +68,13 @@ fn run_core<R: Wait, W: Work + Send, S: Source + Drop, K: Sink + Drop>(
     lines: Lines<S>,
     sink: K,
 ) -> Ran<S, K>
-    requires opening { core.opening ≡ plain_opening image.now core.opening.hardware [] }
+    requires image { core.opening.image ≡ image.now }
     requires history { core.history ≡ opening_entries core.opening }
     requires legal { IsLegal W.chain core.opening core.history }
     requires free { LeavesFree core.opening core.history 1 }
+    requires alone { core.opening.sessions ≡ 1 }
     requires unread { lines.ended ≡ false }
-    ensures run { IsRun W.chain image.now core.opening.hardware lines.rest (K.held sink) (K.held result.sink) result.history.items result.ended }
+    ensures run { IsRun W.chain core.opening lines.rest (K.held sink) (K.held result.sink) result.history.items result.ended }
     ensures rests { RunsNothing core.opening result.history.items }
     ensures runs { AreRuns core.opening result.history.items (result.runs ∷ []) }
     ensures source { (S.place result.source ≡ lines.place) × (lines.faults ≤ S.faults result.source) }
@@ -106,9 +112,9 @@ pub fn run_session<R: Wait, W: Work + Send, S: Source + Drop, K: Sink + Drop>(
     requires runs { map W.runs_of works.items ≡ 0 ∷ [] }
     requires ready { Each W.may_run works.items }
     ensures back { IfErr result (λ e. (e.0 ≡ source) × (e.1 ≡ sink)) }
-    ensures run { IfOk result (λ r. IsRun W.chain loaded.image loaded.hardware (option_map lines_of (S.left source)) (K.held sink) (K.held r.sink) r.history.items r.ended) }
-    ensures rests { IfOk result (λ r. RunsNothing (plain_opening loaded.image loaded.hardware []) r.history.items) }
-    ensures runs { IfOk result (λ r. AreRuns (plain_opening loaded.image loaded.hardware []) r.history.items (r.runs ∷ [])) }
+    ensures run { IfOk result (λ r. IsRun W.chain (opening_of loaded) (option_map lines_of (S.left source)) (K.held sink) (K.held r.sink) r.history.items r.ended) }
+    ensures rests { IfOk result (λ r. RunsNothing (opening_of loaded) r.history.items) }
+    ensures runs { IfOk result (λ r. AreRuns (opening_of loaded) r.history.items (r.runs ∷ [])) }
     ensures source { IfOk result (λ r. (S.place r.source ≡ S.place source) × (S.faults source ≤ S.faults r.source)) }
     ensures sink { IfOk result (λ r. (K.place r.sink ≡ K.place sink) × (K.faults sink ≤ K.faults r.sink)) }
     ensures read_fault { IfOk result (λ r. r.ended ≡ Ended.ReadFault → Rose (S.faults source) (S.faults r.source)) }
@@ -133,7 +139,7 @@ pub fn run_shipped<R: Wait, S: Source + Drop, K: Sink + Drop>(
     sink: K,
 ) -> Result<Ran<S, K>, (S, K)>
     ensures back { IfErr result (λ e. (e.0 ≡ source) × (e.1 ≡ sink)) }
-    ensures run { IfOk result (λ r. IsRun chain loaded.image loaded.hardware (option_map lines_of (S.left source)) (K.held sink) (K.held r.sink) r.history.items r.ended) }
+    ensures run { IfOk result (λ r. IsRun chain (opening_of loaded) (option_map lines_of (S.left source)) (K.held sink) (K.held r.sink) r.history.items r.ended) }
     ensures runs { IfOk result (λ r. bound_runs r.runs ≡ all_starts r.history.items) }
     ensures kinds { IfOk result (λ r. All IsOfKinds r.history.items) }
     ensures source { IfOk result (λ r. (S.place r.source ≡ S.place source) × (S.faults source ≤ S.faults r.source)) }

@@ -1,4 +1,4 @@
-ghost use Rattle.std.specs.Prelude.{◌≡◌, ◌≢◌, ◌<◌, ◌≤◌, ◌↔◌, ◌⊎◌, ℕ, List, [], ◌∷◌, All, codes, map, option_map, string_bytes, true, false};
+ghost use Rattle.std.specs.Prelude.{◌≡◌, ◌≢◌, ◌<◌, ◌≤◌, ◌↔◌, ◌⊎◌, ℕ, List, [], ◌∷◌, All, codes, map, string_bytes, true, false};
 ghost use Rattle.std.specs.Io.KnownBytes.{Appends};
 ghost use Rattle.wc_base.specs.declared.faults.Fault.{Fault as FaultCode};
 ghost use Rattle.wc_io.specs.Causes.{Rose};
@@ -8,9 +8,9 @@ ghost use Rattle.wc_model.specs.declared.entries.Ended.{Ended as EndedOf};
 ghost use Rattle.wcet.specs.Answers.{Shows, unwritten};
 ghost use Rattle.wcet.specs.Files.{Holds};
 ghost use Rattle.wcet.specs.ReportText.{IsOfKinds, report_text};
-ghost use Rattle.wcet.specs.ServeCall.{HasFailedLast, HasFaultyFile, HasSoundFiles, IsDone, IsHeadline, KeepsFiles, OpensInOrder, RefusesFile, RepliesNothing, Reports, RunsLoaded, Serves, ShowsReport, ended_status, unserved_line, unserved_status};
+ghost use Rattle.wcet.specs.ServeCall.{AreKept, HasFaultyFile, HasSoundFiles, IsDone, IsHeadline, IsUnserved, KeepsFiles, OpensInOrder, RefusesFile, Reports, RunsLoaded, Serves, ShowsReport, ended_status, unserved_line, unserved_status};
 ghost use Rattle.wcet.specs.Starts.{bound_runs};
-ghost use Rattle.wcet.specs.Words.{IsFaultyServe};
+ghost use Rattle.wcet.specs.Words.{IsFaultyServe, paths_in};
 
 use crate::Status;
 use crate::answers::{Answer, finish};
@@ -65,6 +65,7 @@ fn run_loaded<R: Wait, H: House>(
 ) -> Result<Served, Unserved>
     ensures session { RunsLoaded loaded (H.tells house.old) (H.file house.old) (H.file house.new) input.now output.now (H.opened house.old) (H.opened house.new) result }
     ensures others { (p : List ℕ) → p ≢ output.now → H.file house.new p ≡ H.file house.old p }
+    ensures tells { H.tells house.new ≡ H.tells house.old }
 {
     let Opened { source, sink } = match open(house, input, output) {
         Ok(opened) => opened,
@@ -99,10 +100,11 @@ fn serve_files<R: Wait, H: House>(
     call: &ServeCall,
     house: &mut H,
 ) -> Result<Served, Unserved>
-    ensures session { Serves (H.tells house.old) (H.file house.old) (H.file house.new) call.now.binary.now (option_map (λ p. p.now) call.now.hardware) call.now.input.now call.now.output.now (H.opened house.old) (H.opened house.new) result }
+    ensures session { Serves (H.tells house.old) (H.file house.old) (H.file house.new) (paths_in call.now.paths) call.now.input.now call.now.output.now (H.opened house.old) (H.opened house.new) result }
     ensures others { (p : List ℕ) → p ≢ call.now.output.now → H.file house.new p ≡ H.file house.old p }
+    ensures tells { H.tells house.new ≡ H.tells house.old }
 {
-    match load(alloc, house, call.binary, call.hardware) {
+    match load(alloc, house, &call.paths) {
         Ok(loaded) => run_loaded(rt, alloc, loaded, call.input, call.output, house),
         Err(unloaded) => Err(Unserved::Unloaded(unloaded)),
     }
@@ -111,6 +113,8 @@ fn serve_files<R: Wait, H: House>(
 fn finish_unserved<K: Sink>(out: &mut K, unserved: Unserved) -> Status
     ensures status { result ≡ unserved_status unserved }
     ensures line { Shows (K.held out.old) (K.held out.new) (K.faults out.old) (K.faults out.new) (unserved_line unserved) }
+    ensures place { K.place out.new ≡ K.place out.old }
+    ensures faults { K.faults out.old ≤ K.faults out.new }
 {
     match unserved {
         Unserved::Unloaded(unloaded) => finish(out, "", &Answer::from(unloaded)),
@@ -144,7 +148,9 @@ fn unwritten_status(status: Status) -> Status
 
 fn finish_served<K: Sink>(out: &mut K, served: &Served) -> Status
     requires { All IsOfKinds served.now.history.items }
-    ensures { Reports (report_text served.now.history.items (bound_runs served.now.runs) (served.now.ended ∷ [])) served.now.ended (K.held out.old) (K.held out.new) (K.faults out.old) (K.faults out.new) result }
+    ensures report { Reports (report_text served.now.history.items (bound_runs served.now.runs) (served.now.ended ∷ [])) served.now.ended (K.held out.old) (K.held out.new) (K.faults out.old) (K.faults out.new) result }
+    ensures place { K.place out.new ≡ K.place out.old }
+    ensures faults { K.faults out.old ≤ K.faults out.new }
 {
     let runs = [0, 0, 0, 0, 0, 0, 0, 0, 0, 0, served.runs];
     let status = status_of(served.ended);
@@ -154,7 +160,7 @@ fn finish_served<K: Sink>(out: &mut K, served: &Served) -> Status
     }
 }
 
-/// `serve BINARY - HARDWARE IN OUT`: the lines of the file IN are answered in the file OUT, over one workspace, and the
+/// `serve BINARY FACTS HARDWARE IN OUT`: the lines of the file IN are answered in the file OUT, over one workspace, and the
 /// history of the workspace is printed.
 pub fn serve<R: Threads + Wait + Sync, H: House, K: Sink>(
     rt: &R,
@@ -170,23 +176,25 @@ pub fn serve<R: Threads + Wait + Sync, H: House, K: Sink>(
     ensures usage { (result ≡ 2) ↔ IsFaultyServe (map string_bytes words.now) }
     ensures usage_line { result ≡ 2 → Shows (K.held out.old) (K.held out.new) (K.faults out.old) (K.faults out.new) (codes "usage\n") }
 
-    // 3: only where one more source of the house failed: a file or the script.
+    // 3: only where one more source of the house failed: the line where a file or IN can't be read before the session,
+    // and the report where the session ran.
     ensures read { result ≡ 3 → failed_count false (H.opened house.old) < failed_count false (H.opened house.new) }
-    ensures read_line { result ≡ 3 → (Shows (K.held out.old) (K.held out.new) (K.faults out.old) (K.faults out.new) (codes "read fault\n") × RepliesNothing (map string_bytes words.now) (H.tells house.old) (H.file house.old) (H.file house.new) × HasFailedLast false (H.opened house.new))
+    ensures read_line { result ≡ 3 → (Shows (K.held out.old) (K.held out.new) (K.faults out.old) (K.faults out.new) (codes "read fault\n") × IsUnserved (map string_bytes words.now) (H.tells house.old) (H.file house.old) (H.file house.new) (H.opened house.old) (H.opened house.new) (Unserved.Unloaded Unloaded.ReadFault))
         ⊎ IsHeadline (map string_bytes words.now) (H.tells house.old) (H.file house.old) (H.file house.new) (H.opened house.old) (H.opened house.new) (Shows (K.held out.old) (K.held out.new) (K.faults out.old) (K.faults out.new)) Ended.ReadFault }
 
-    // 4: only where one more sink of the house or the output failed.
+    // 4: only where one more sink of the house or the output failed: the line where OUT can't be opened, and the report
+    // where the session ran.
     ensures write { result ≡ 4 → (failed_count true (H.opened house.old) < failed_count true (H.opened house.new)) ⊎ Rose (K.faults out.old) (K.faults out.new) }
-    ensures write_line { result ≡ 4 → (Shows (K.held out.old) (K.held out.new) (K.faults out.old) (K.faults out.new) (codes "write fault\n") × RepliesNothing (map string_bytes words.now) (H.tells house.old) (H.file house.old) (H.file house.new) × HasFailedLast true (H.opened house.new))
+    ensures write_line { result ≡ 4 → (Shows (K.held out.old) (K.held out.new) (K.faults out.old) (K.faults out.new) (codes "write fault\n") × IsUnserved (map string_bytes words.now) (H.tells house.old) (H.file house.old) (H.file house.new) (H.opened house.old) (H.opened house.new) Unserved.WriteFault)
         ⊎ ((end : EndedOf) × IsHeadline (map string_bytes words.now) (H.tells house.old) (H.file house.old) (H.file house.new) (H.opened house.old) (H.opened house.new) (ShowsReport end (K.held out.old) (K.held out.new) (K.faults out.old) (K.faults out.new)) end) }
 
     // 5: want of memory, which may come at any time before the session.
     ensures memory_line { result ≡ 5 → Shows (K.held out.old) (K.held out.new) (K.faults out.old) (K.faults out.new) (codes "memory\n") }
-    ensures memory_replies { result ≡ 5 → RepliesNothing (map string_bytes words.now) (H.tells house.old) (H.file house.old) (H.file house.new) }
+    ensures memory { result ≡ 5 → IsUnserved (map string_bytes words.now) (H.tells house.old) (H.file house.old) (H.file house.new) (H.opened house.old) (H.opened house.new) (Unserved.Unloaded Unloaded.Memory) }
 
-    // 6: exactly where a file has a fault, the binary's before the hardware's.
+    // 6: exactly where a file has a fault, the binary's before the hardware's, and that before the facts'.
     ensures file { result ≡ 6 → (fault : FaultCode) × RefusesFile (map string_bytes words.now) (Holds (H.tells house.old) (H.file house.old)) (H.opened house.old) (H.opened house.new) (Shows (K.held out.old) (K.held out.new) (K.faults out.old) (K.faults out.new)) fault }
-    ensures file_replies { result ≡ 6 → RepliesNothing (map string_bytes words.now) (H.tells house.old) (H.file house.old) (H.file house.new) }
+    ensures file_kept { result ≡ 6 → AreKept (H.file house.old) (H.file house.new) }
     ensures bad_file { HasFaultyFile (map string_bytes words.now) (H.file house.old) → (result ≡ 6) ⊎ ((result ≡ 3) ⊎ (result ≡ 5)) }
 
     // 7: the script was too much.
@@ -199,7 +207,10 @@ pub fn serve<R: Threads + Wait + Sync, H: House, K: Sink>(
     ensures opened { OpensInOrder (map string_bytes words.now) (H.opened house.old) (H.opened house.new) }
     ensures unopened { IsFaultyServe (map string_bytes words.now) → H.opened house.new ≡ H.opened house.old }
     ensures files { KeepsFiles (map string_bytes words.now) (H.file house.old) (H.file house.new) }
-    ensures untouched { IsFaultyServe (map string_bytes words.now) → (p : List ℕ) → H.file house.new p ≡ H.file house.old p }
+    ensures untouched { IsFaultyServe (map string_bytes words.now) → AreKept (H.file house.old) (H.file house.new) }
+    ensures tells { H.tells house.new ≡ H.tells house.old }
+    ensures place { K.place out.new ≡ K.place out.old }
+    ensures faults { K.faults out.old ≤ K.faults out.new }
 {
     match serve_call(words) {
         None => finish(out, "", &Answer::Usage),

@@ -54,7 +54,8 @@ pub fn words_of(alloc: Global, line: &str) -> Result<Vec<String>, AllocError> {
     Ok(words)
 }
 
-// The status of a call, and what it wrote; some writes of the output fail, by their numbers.
+// The status of a call, and what it wrote; some writes of the output fail, by their numbers. Where memory was short there
+// is nothing to compare.
 pub fn call<R: Threads + Sync>(
     rt: &R,
     alloc: Global,
@@ -72,6 +73,9 @@ pub fn call<R: Threads + Sync>(
     };
     let words = words_of(alloc, line)?;
     let status = bound_once(rt, alloc, &words, house, &mut out);
+    if status == 5 || (failing.is_empty() && out.faults > 0) {
+        return Err(AllocError);
+    }
     Ok((status, out.held))
 }
 

@@ -1,0 +1,17 @@
+use Rattle.std.proofs.Common.{ap}
+use Rattle.std.specs.Prelude.{[], Err, option_map}
+use Rattle.wc_base.specs.declared.faults.FileWord.TheVariants.{Facts as FactsFile}
+use Rattle.wcet.specs.Files.{FactsSay, Holds, Within}
+use Rattle.wcet.specs.Loading.{listed}
+use Rattle.wcet.proofs.LoadingLemmas.{decoded, given_path, unread_bytes}
+use Rattle.wcet.proofs.loading.load_facts.Goals as goal
+
+pub returns-in-Ok-clause-file : goal.returns-in-Ok-clause-file
+returns-in-Ok-clause-file g c =
+    given_path (Holds (g.H.House.tells c.args.house.now) (g.H.House.file c.args.house.now)) [] (Within FactsFile (FactsSay c.args.image.now)) (option_map (λ p. p.now) c.args.path) c.in-Some.path.now (g.H.House.opened c.args.house.now) (g.H.House.opened c.load_bytes.new.house) (listed c.decode_facts.result) (ap (option_map (λ p. p.now)) c.in-Some.is)
+    (decoded _ FactsFile (FactsSay c.args.image.now) _ _ _ c.in-Ok.bytes (listed c.decode_facts.result) c.in-Ok.ensures.file (rw c.as_slice.ensures.value at c.decode_facts.ensures))
+
+pub returns-in-Err-clause-file : goal.returns-in-Err-clause-file
+returns-in-Err-clause-file g c =
+    given_path (Holds (g.H.House.tells c.args.house.now) (g.H.House.file c.args.house.now)) [] (Within FactsFile (FactsSay c.args.image.now)) (option_map (λ p. p.now) c.args.path) c.in-Some.path.now (g.H.House.opened c.args.house.now) (g.H.House.opened c.load_bytes.new.house) (Err c.in-Err.unloaded) (ap (option_map (λ p. p.now)) c.in-Some.is)
+    (unread_bytes _ FactsFile (FactsSay c.args.image.now) _ _ _ c.in-Err.unloaded c.in-Err.ensures.file)
