@@ -1,6 +1,6 @@
 -- Which rows of the table can take a word, by its bits 27:25.
 use Rattle.std.proofs.Common.{◌≡◌, ◌≢◌, ◌⊎◌, inl, inr, ◌∙◌, None, ℕ, ◌+◌, ◌*◌, ◌/◌, ◌≤◌, ◌==◌, Bool, true, false, refl, arith, List, [], ◌∷◌}
-use Rattle.wc_model.specs.Instruction.{field, bit, insn_of, first_row, is_unconditional, is_branch_exchange, is_branch_link_exchange, is_no_operation, is_move_half, is_count_zeros, is_multiply, is_extra_transfer, is_data_processing, is_transfer, is_multiple, is_branch, is_divide, is_extend, is_bit_field, is_reverse, is_supervisor_call, base, is_to_pc, unless, next, transfer, multiple, branch}
+use Rattle.wc_model.specs.Program.Instruction.{field, bit, insn_of, first_row, is_unconditional, is_branch_exchange, is_branch_link_exchange, is_no_operation, is_move_half, is_count_zeros, is_multiply, is_extra_transfer, is_data_processing, is_transfer, is_multiple, is_branch, is_divide, is_extend, is_bit_field, is_reverse, is_supervisor_call, base, is_to_pc, unless, next, transfer, multiple, branch}
 use Rattle.std.specs.declared.option.Option.{Option}
 use Rattle.wc_model.specs.declared.instructions.Insn.{Insn}
 use Rattle.wc_model.specs.declared.instructions.Class.TheVariants.{Alu, Div, System}

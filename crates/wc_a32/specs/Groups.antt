@@ -3,7 +3,7 @@ use Rattle.std.specs.Prelude.{ℕ, Bool, ◌==◌, List, [], ◌∷◌, Option}
 use Rattle.wc_model.specs.declared.instructions.Class.TheVariants.{Alu, Mul, Div, Branch}
 use Rattle.wc_model.specs.declared.instructions.Control.TheVariants.{IndirectCall}
 use Rattle.wc_model.specs.declared.instructions.Insn.{Insn}
-use Rattle.wc_model.specs.Instruction.{base, next, turns, unless, is_to_pc, is_branch_exchange, branch_exchange, is_branch_link_exchange, is_no_operation, is_move_half, is_count_zeros, is_multiply, is_multiply_to_pc, is_extra_transfer, extra_transfer, is_data_processing, data_processing, is_divide, is_extend, is_bit_field, is_reverse}
+use Rattle.wc_model.specs.Program.Instruction.{base, next, turns, unless, is_to_pc, is_branch_exchange, branch_exchange, is_branch_link_exchange, is_no_operation, is_move_half, is_count_zeros, is_multiply, is_multiply_to_pc, is_extra_transfer, extra_transfer, is_data_processing, data_processing, is_divide, is_extend, is_bit_field, is_reverse}
 
 -- bits 27:25 = 000 with bits 7 and 4 set
 abbrev pub extension_rows : ℕ → List (Bool × Option Insn)

@@ -1,7 +1,7 @@
 ghost use Rattle.std.specs.Prelude.{◌≡◌, ◌≢◌, ◌==◌, ◌≤◌, ◌*◌, ◌||◌, ◌⊎◌, if◌then◌else◌, None, true};
 ghost use Rattle.std.specs.Option.{IfSome};
 ghost use Rattle.wc_a32.specs.Groups.{extension_rows, immediate_rows, media_rows, register_rows};
-ghost use Rattle.wc_model.specs.Instruction.{IsSound, barrier as barrier_of, bit, branch as branch_of, branch_target as branch_target_of, data_processing as data_processing_of, extra_transfer as extra_transfer_of, field as field_of, first_row, insn_of, is_extend, is_multiply_operation as is_multiply_operation_of, is_multiply_to_pc, is_reverse, multiple as multiple_of, next as next_of, transfer as transfer_of, turns as turns_of, unless};
+ghost use Rattle.wc_model.specs.Program.Instruction.{IsSound, barrier as barrier_of, bit, branch as branch_of, branch_target as branch_target_of, data_processing as data_processing_of, extra_transfer as extra_transfer_of, field as field_of, first_row, insn_of, is_extend, is_multiply_operation as is_multiply_operation_of, is_multiply_to_pc, is_reverse, multiple as multiple_of, next as next_of, transfer as transfer_of, turns as turns_of, unless};
 ghost use Rattle.wc_model.specs.declared.instructions.Class.TheVariants.{Mul, Multi};
 ghost use Rattle.wc_model.specs.declared.instructions.Control.TheVariants.{Next};
 

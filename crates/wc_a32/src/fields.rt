@@ -1,5 +1,5 @@
 ghost use Rattle.std.specs.Prelude.{◌≡◌, ◌≤◌, ◌<◌, ◌==◌};
-ghost use Rattle.wc_model.specs.Instruction.{base as base_of, bit, destination as destination_of, field};
+ghost use Rattle.wc_model.specs.Program.Instruction.{base as base_of, bit, destination as destination_of, field};
 
 /// Bits `high` to `low` of the word.
 pub fn field(word: u32, high: u32, low: u32) -> u32

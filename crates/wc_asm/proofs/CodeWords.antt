@@ -1,7 +1,7 @@
 -- The words of a file whose one range is the code at 84.
 use Rattle.std.proofs.Common.{◌≡◌, ◌⊎◌, inl, inr, ℕ, ◌+◌, ◌-◌, ◌*◌, ◌%◌, ◌^◌, ◌<◌, ◌≤◌, Bool, true, false, cond, if◌then◌else◌, ◌==◌, nat_le, List, [], ◌∷◌, ◌++◌, find, length, drop, slice_index, Option, Some, None, refl, ap, ◌∙◌, arith, le-leb, eq-eqb}
 use Rattle.std.proofs.lemmas.Bool.{and_from, and_left, and_right, cond-true, lt-leb}
-use Rattle.wc_model.specs.Words.{word_in, has_word}
+use Rattle.wc_model.specs.Program.Words.{word_in, has_word}
 use Rattle.wc_model.specs.declared.elf_image.Range.{Range}
 use Rattle.wc_asm.specs.Files.{words}
 use Rattle.wc_asm.proofs.Parts.{word_of_part}

@@ -2,8 +2,8 @@
 use Rattle.std.proofs.Common.{◌≡◌, ℕ, suc, ◌+◌, ◌-◌, ◌*◌, ◌%◌, ◌^◌, ◌<◌, Bool, true, false, not, ◌==◌, nat_lt, List, [], ◌∷◌, ◌++◌, map, flat_map, length, take, drop, position, All, Some, None, refl, sym, ap, ap₂, ◌∙◌, arith, append_assoc, length-append, take_at, lt-ltb}
 use Rattle.std.specs.List.{list_any, position_or_len, range_with_len}
 use Rattle.std.proofs.lemmas.Bool.{and_parts, or_parts, not-true, cond-true}
-use Rattle.wc_model.specs.Elf.{byte, st_name, st_value, st_type, st_shndx, sh_offset, linked, contents}
-use Rattle.wc_model.specs.Image.{is_label, name_length, label_checks, label_name}
+use Rattle.wc_model.specs.Program.Elf.{byte, st_name, st_value, st_type, st_shndx, sh_offset, linked, contents}
+use Rattle.wc_model.specs.Program.Image.{is_label, name_length, label_checks, label_name}
 use Rattle.wc_asm.specs.Files.{halves, symbol, symbols_from, strings_of, names_size, is_name, are_names}
 use Rattle.wc_asm.specs.Images.{told, function_of}
 use Rattle.wc_asm.proofs.Parts.{behind, word_of_part, half_in, byte_of_part}

@@ -1,6 +1,6 @@
 -- Names with the same bytes and addresses give the same answer to each look-up.
 use Rattle.std.proofs.Common.{◌≡◌, ℕ, Bool, true, false, cond, List, [], ◌∷◌, map, find, Option, Some, refl, ap, ◌∙◌, bytes_eq}
-use Rattle.wc_model.specs.Words.{is_called, address_of}
+use Rattle.wc_model.specs.Program.Words.{is_called, address_of}
 use Rattle.wc_model.specs.declared.elf_image.Name.{Name}
 use Rattle.wc_asm.specs.Images.{told, function_of, arm_address, address_in}
 

@@ -1,7 +1,7 @@
 -- The two headers at the front of a program's file, as they are read.
 use Rattle.std.proofs.Common.{◌≡◌, ℕ, ◌+◌, ◌*◌, ◌^◌, ◌<◌, ◌≤◌, true, List, [], ◌∷◌, ◌++◌, length, flat_map, drop, ap, ap₂, subst, sym, ◌∙◌, refl, arith, le-leb, eq-eqb}
-use Rattle.wc_model.specs.Elf.{byte, word, e_type, e_machine, e_phoff, e_shoff, e_phentsize, e_phnum, e_shentsize, e_shnum, p_type, p_offset, p_vaddr, p_filesz, p_flags, is_executable, program_headers, entries}
-use Rattle.wc_model.specs.Image.{header_checks, range_checks, program_table_checks, segment_checks, segment_range, ranges_of}
+use Rattle.wc_model.specs.Program.Elf.{byte, word, e_type, e_machine, e_phoff, e_shoff, e_phentsize, e_phnum, e_shentsize, e_shnum, p_type, p_offset, p_vaddr, p_filesz, p_flags, is_executable, program_headers, entries}
+use Rattle.wc_model.specs.Program.Image.{header_checks, range_checks, program_table_checks, segment_checks, segment_range, ranges_of}
 use Rattle.wc_asm.specs.Files.{file_header, program_header, halves}
 use Rattle.wc_asm.proofs.Parts.{word_of_part}
 use Rattle.wc_asm.proofs.Passes.{Pass, inside, pass_both}

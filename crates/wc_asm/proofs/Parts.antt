@@ -2,7 +2,7 @@
 use Rattle.std.proofs.Common.{◌≡◌, ℕ, zero, suc, ◌+◌, ◌*◌, ◌^◌, ◌<◌, List, [], ◌∷◌, ◌++◌, length, drop, slice_index, flat_map, sym, ap, ◌∙◌, arith, append_assoc, length-append, drop-drop, drop_at, get_or-drop, mul-suc, mul-zero, add_comm}
 use Rattle.byteorder.specs.Endian.{little_number, little_bytes}
 use Rattle.byteorder.specs.Numbers.{little_number-reads_back, length-bytes_low_first}
-use Rattle.wc_model.specs.Elf.{byte, half, word}
+use Rattle.wc_model.specs.Program.Elf.{byte, half, word}
 use Rattle.wc_asm.specs.Files.{words, halves}
 
 -- the rest of the list, behind a part

@@ -1,8 +1,8 @@
 -- Checks of a file that all hold.
 use Rattle.std.proofs.Common.{◌≡◌, ℕ, ◌+◌, ◌≤◌, Bool, true, false, List, [], ◌∷◌, ◌++◌, length, None, refl, sym, arith, true≢false, le-leb}
 use Rattle.wc_base.specs.declared.faults.Fault.{Fault}
-use Rattle.wc_model.specs.Elf.{is_inside}
-use Rattle.wc_model.specs.Image.{first_fault}
+use Rattle.wc_model.specs.Program.Elf.{is_inside}
+use Rattle.wc_model.specs.Program.Image.{first_fault}
 
 abbrev pub Pass : List (Bool × Fault) → Type 0
 Pass [] = Unit {0}

@@ -5,7 +5,7 @@ use Rattle.wc_model.specs.declared.instructions.Class.TheVariants.{Alu, Mul, Div
 use Rattle.wc_model.specs.declared.instructions.Control.{Control}
 use Rattle.wc_model.specs.declared.instructions.Control.TheVariants.{Next, Jump, Call, Return, IndirectJump, IndirectCall}
 use Rattle.wc_model.specs.declared.instructions.Insn.{Insn}
-use Rattle.wc_model.specs.Instruction.{field, bit, insn_of, next, is_unconditional, branch_target}
+use Rattle.wc_model.specs.Program.Instruction.{field, bit, insn_of, next, is_unconditional, branch_target}
 use Rattle.wc_asm.specs.Canonical.{distance, is_reachable, branch_word, only_if, next_word, return_word, indirect_jump_word, turning_word, conditional, of_control}
 use Rattle.wc_asm.specs.Readings.{turned, ReadsBack}
 use Rattle.wc_a32.proofs.Rows.{only_branch}

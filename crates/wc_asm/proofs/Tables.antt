@@ -1,7 +1,7 @@
 -- The three section headers at the end of a program's file, as they are read.
 use Rattle.std.proofs.Common.{◌≡◌, ℕ, ◌+◌, ◌*◌, ◌%◌, ◌^◌, ◌<◌, ◌≤◌, ◌==◌, true, List, [], ◌∷◌, ◌++◌, length, drop, find, Some, ap, ap₂, ◌∙◌, refl, arith, eq-eqb, add-zero}
-use Rattle.wc_model.specs.Elf.{e_shoff, e_shentsize, sh_type, sh_offset, sh_size, sh_link, section_headers, symbol_section, linked, entries}
-use Rattle.wc_model.specs.Image.{section_table_checks, symbol_section_checks, is_string_table}
+use Rattle.wc_model.specs.Program.Elf.{e_shoff, e_shentsize, sh_type, sh_offset, sh_size, sh_link, section_headers, symbol_section, linked, entries}
+use Rattle.wc_model.specs.Program.Image.{section_table_checks, symbol_section_checks, is_string_table}
 use Rattle.wc_asm.specs.Files.{words, section_headers as headers_of}
 use Rattle.wc_asm.proofs.Openings.{IsOpening}
 use Rattle.wc_asm.proofs.Parts.{behind, word_of_part}

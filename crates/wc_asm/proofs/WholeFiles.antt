@@ -2,8 +2,8 @@
 use Rattle.std.proofs.Common.{◌≡◌, ℕ, suc, ◌+◌, ◌-◌, ◌*◌, ◌/◌, ◌%◌, ◌^◌, ◌<◌, ◌≤◌, true, false, ◌&&◌, ◌==◌, nat_le, List, [], ◌∷◌, ◌++◌, map, flat_map, length, take, drop, slice_range, All, Some, None, refl, sym, ap, ap₂, subst, ◌∙◌, arith, take_at, add-zero, eqb-true, leb-true}
 use Rattle.std.specs.List.{range_with_len}
 use Rattle.std.proofs.lemmas.Bool.{and_parts}
-use Rattle.wc_model.specs.Elf.{st_shndx, sh_offset, sh_size, linked, symbols, symbol_section, entries}
-use Rattle.wc_model.specs.Image.{checks, header_checks, range_checks, name_checks, section_table_checks, symbol_checks, symbol_section_checks, label_checks, label_name, is_label, section_names, names_of, image_fault, IsImageOf}
+use Rattle.wc_model.specs.Program.Elf.{st_shndx, sh_offset, sh_size, linked, symbols, symbol_section, entries}
+use Rattle.wc_model.specs.Program.Image.{checks, header_checks, range_checks, name_checks, section_table_checks, symbol_checks, symbol_section_checks, label_checks, label_name, is_label, section_names, names_of, image_fault, IsImageOf}
 use Rattle.wc_model.specs.declared.elf_image.Image.{Image}
 use Rattle.wc_asm.specs.Files.{words, symbols_from, strings_of, string_table, symbols_offset, strings_offset, strings_size, sections_offset, file_size, file_of, is_code, are_names, is_writable_of}
 use Rattle.wc_asm.specs.Images.{code_range, told, function_of, IsProgramImage, IsReadBack}

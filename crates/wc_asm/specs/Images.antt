@@ -6,8 +6,8 @@ use Rattle.std.specs.declared.result.Result.{Result}
 use Rattle.std.specs.declared.result.Result.TheVariants.{Ok, Err}
 use Rattle.wc_base.specs.declared.faults.Fault.{Fault}
 use Rattle.wc_base.specs.declared.faults.Fault.TheVariants.{NoSymbol, Thumb}
-use Rattle.wc_model.specs.Image.{image_fault, IsImageOf}
-use Rattle.wc_model.specs.Words.{word_at, find_of}
+use Rattle.wc_model.specs.Program.Image.{image_fault, IsImageOf}
+use Rattle.wc_model.specs.Program.Words.{word_at, find_of}
 use Rattle.wc_model.specs.declared.elf_image.Image.{Image}
 use Rattle.wc_model.specs.declared.elf_image.Name.{Name}
 use Rattle.wc_model.specs.declared.elf_image.Range.{Range}

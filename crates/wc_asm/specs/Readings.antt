@@ -3,7 +3,7 @@ use Rattle.std.specs.Prelude.{ℕ, ◌≡◌, ◌-◌, Bool, true, false, Option
 use Rattle.wc_model.specs.declared.instructions.Class.{Class}
 use Rattle.wc_model.specs.declared.instructions.Control.{Control}
 use Rattle.wc_model.specs.declared.instructions.Insn.{Insn}
-use Rattle.wc_model.specs.Instruction.{insn_of}
+use Rattle.wc_model.specs.Program.Instruction.{insn_of}
 
 abbrev pub turned : Class → ℕ → Control → Bool → Option Insn
 turned class moved control always = Some (record { class = class; moved = moved; control = control; always = always })

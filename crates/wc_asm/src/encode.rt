@@ -1,7 +1,7 @@
 ghost use Rattle.std.specs.Prelude.{◌≡◌, ◌≤◌, ◌<◌, ◌-◌, ◌^◌, ℕ, Some, IfSome};
 ghost use Rattle.wc_asm.specs.Canonical.{branch_word as branch_word_of, canonical, conditional as conditional_of, distance as distance_of, indirect_jump_word as indirect_jump_word_of, next_word as next_word_of, return_word as return_word_of, turning_word as turning_word_of};
 ghost use Rattle.wc_asm.specs.Readings.{ReadsBack};
-ghost use Rattle.wc_model.specs.Instruction.{insn_of, next};
+ghost use Rattle.wc_model.specs.Program.Instruction.{insn_of, next};
 ghost use Rattle.wc_model.specs.declared.instructions.Class.TheVariants.{Branch};
 ghost use Rattle.wc_model.specs.declared.instructions.Control.TheVariants.{Call, IndirectJump, Jump, Return};
 

@@ -3,10 +3,10 @@ use Rattle.std.proofs.Common.{◌≡◌, ℕ, ◌+◌, ◌<◌, ◌≤◌, true,
 use Rattle.std.proofs.lemmas.List.{append-nil}
 use Rattle.std.proofs.Math.Seq.{take-length}
 use Rattle.wc_model.specs.declared.entries.Entry.{Entry}
-use Rattle.wc_model.specs.Closures.{last_touch}
-use Rattle.wc_model.specs.Edits.{Setting, bare, all_edited, edits_of, edit_of, AgreeOnAll}
-use Rattle.wc_model.specs.Entries.{session_of}
-use Rattle.wc_model.specs.History.{Opening, State, Run, Ask, Chain, IsLegal, IsRight, state_after, step, is_free, is_session, own_run, ask_at, inputs_at, count_of, stamp_at, bound_kind}
+use Rattle.wc_model.specs.Workspace.Closures.{last_touch}
+use Rattle.wc_model.specs.Workspace.Edits.{Setting, bare, all_edited, edits_of, edit_of, AgreeOnAll}
+use Rattle.wc_model.specs.Workspace.Entries.{session_of}
+use Rattle.wc_model.specs.Workspace.History.{Opening, State, Run, Ask, Chain, IsLegal, IsRight, state_after, step, is_free, is_session, own_run, ask_at, inputs_at, count_of, stamp_at, bound_kind}
 use Rattle.wc_model.proofs.Replays.{kept_snoc, kept_is_legal}
 use Rattle.wc_model.proofs.Sharing.{LeavesOthers}
 use Rattle.wc_model.proofs.Current.{then_from_now, now_from_then}

@@ -4,9 +4,9 @@ use Rattle.std.proofs.lemmas.List.{append-nil}
 use Rattle.wc_model.specs.declared.entries.Entry.{Entry}
 use Rattle.wc_model.specs.declared.entries.Entry.TheVariants.{Start}
 use Rattle.wc_model.specs.declared.kinds.Describe.{Describe}
-use Rattle.wc_model.specs.Closures.{requires_of, has_kind}
-use Rattle.wc_model.specs.Edits.{Setting}
-use Rattle.wc_model.specs.History.{Opening, State, Run, Ask, Chain, IsLegal, is_session, own_run, ask_at, with_home, home_of, is_stored, bound_kind}
+use Rattle.wc_model.specs.Workspace.Closures.{requires_of, has_kind}
+use Rattle.wc_model.specs.Workspace.Edits.{Setting}
+use Rattle.wc_model.specs.Workspace.History.{Opening, State, Run, Ask, Chain, IsLegal, is_session, own_run, ask_at, with_home, home_of, is_stored, bound_kind}
 use Rattle.wc_model.proofs.Sharing.{asked_same, asked_other, length-with_ask, run_other, LeavesOthers}
 use Rattle.wc_core.specs.Answers.{KeepsOthers}
 use Rattle.wc_core.specs.Features.{Each}

@@ -1,6 +1,6 @@
 -- For callers with several sessions: what others hold fits after several calls.
 use Rattle.std.proofs.Common.{◌≡◌, ℕ, List, Result, Ok, Err, IfOk, ◌∙◌}
-use Rattle.wc_model.specs.Edits.{Setting}
+use Rattle.wc_model.specs.Workspace.Edits.{Setting}
 use Rattle.wc_core.specs.Answers.{KeepsOthers}
 use Rattle.wc_core.specs.Views.{Known}
 

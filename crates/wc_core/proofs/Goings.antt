@@ -6,9 +6,9 @@ use Rattle.wc_model.specs.declared.entries.Entry.{Entry}
 use Rattle.wc_model.specs.declared.entries.Entry.TheVariants.{Edit as EditEntry, NoFact, Pin, List as ListEntry}
 use Rattle.wc_model.specs.declared.inputs.Edit.{Edit}
 use Rattle.wc_model.specs.declared.kinds.Describe.{Describe}
-use Rattle.wc_model.specs.Closures.{touches_any, last_touch, closure}
-use Rattle.wc_model.specs.Edits.{Setting, bare, all_edited, edited, AgreeOnAll}
-use Rattle.wc_model.specs.History.{Opening, State, Ask, Chain, IsLegal, is_session, is_free, can_edit, is_live, count_of, own_run, ask_at, after_edit, after_pin, untouched_keys, same_name, bound_kind}
+use Rattle.wc_model.specs.Workspace.Closures.{touches_any, last_touch, closure}
+use Rattle.wc_model.specs.Workspace.Edits.{Setting, bare, all_edited, edited, AgreeOnAll}
+use Rattle.wc_model.specs.Workspace.History.{Opening, State, Ask, Chain, IsLegal, is_session, is_free, can_edit, is_live, count_of, own_run, ask_at, after_edit, after_pin, untouched_keys, same_name, bound_kind}
 use Rattle.wc_model.proofs.Replays.{kept_snoc, all_edited-append, last_touch-append}
 use Rattle.wc_model.proofs.Sharing.{asked_same, asked_other, length-with_ask, run_other, LeavesOthers}
 use Rattle.wc_model.proofs.Untouched.{agree_untouched, same_image}

@@ -7,9 +7,9 @@ use Rattle.wc_model.specs.declared.entries.End.{End}
 use Rattle.wc_model.specs.declared.entries.End.TheVariants.{Kept as KeptEnd, Dropped as DroppedEnd, Memory as MemoryEnd}
 use Rattle.wc_model.specs.declared.entries.Entry.{Entry}
 use Rattle.wc_model.specs.declared.entries.Entry.TheVariants.{Finish}
-use Rattle.wc_model.specs.Closures.{has_kind}
-use Rattle.wc_model.specs.Edits.{Setting}
-use Rattle.wc_model.specs.History.{Opening, State, Run, Ask, Chain, IsLegal, state_after, is_session, own_run, without_own, ask_at, with_home, home_of, stamp_at, count_of, right_end, stored as stored_at, rows_after, ask_after, after_finish, bound_kind}
+use Rattle.wc_model.specs.Workspace.Closures.{has_kind}
+use Rattle.wc_model.specs.Workspace.Edits.{Setting}
+use Rattle.wc_model.specs.Workspace.History.{Opening, State, Run, Ask, Chain, IsLegal, state_after, is_session, own_run, without_own, ask_at, with_home, home_of, stamp_at, count_of, right_end, stored as stored_at, rows_after, ask_after, after_finish, bound_kind}
 use Rattle.wc_model.proofs.Sharing.{asked_same, asked_other, length-with_ask, in_other, LeavesOthers}
 use Rattle.wc_core.specs.declared.store.Slot.{Slot}
 use Rattle.wc_core.specs.Answers.{KeepsOthers, is_current}

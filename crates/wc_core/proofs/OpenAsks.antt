@@ -2,8 +2,8 @@
 use Rattle.std.proofs.Common.{◌≡◌, ◌≢◌, ℕ, zero, suc, ◌+◌, ◌<◌, ◌≤◌, Bool, true, false, ◌&&◌, List, [], ◌∷◌, length, Option, None, Some, IfSome, is_none, nat_le, refl, sym, ap, subst, ◌∙◌, arith, if◌then◌else◌}
 use Rattle.std.proofs.lemmas.Bool.{leb-true}
 use Rattle.wc_model.specs.declared.entries.Entry.{Entry}
-use Rattle.wc_model.specs.Edits.{Setting}
-use Rattle.wc_model.specs.History.{Opening, State, Ask, state_after, ask_at, with_ask, own_run, is_free, is_session, stamp_at, bound_kind}
+use Rattle.wc_model.specs.Workspace.Edits.{Setting}
+use Rattle.wc_model.specs.Workspace.History.{Opening, State, Ask, state_after, ask_at, with_ask, own_run, is_free, is_session, stamp_at, bound_kind}
 use Rattle.wc_model.proofs.Sharing.{asked_other, LeavesOthers, open_other, inputs_later, stamp_later}
 use Rattle.wc_core.specs.Answers.{KeepsOthers}
 use Rattle.wc_core.specs.Features.{Each}

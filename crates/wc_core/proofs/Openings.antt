@@ -9,9 +9,9 @@ use Rattle.wc_model.specs.declared.flow_facts.Fact.{Fact}
 use Rattle.wc_model.specs.declared.flow_facts.Fact.TheVariants.{Loop, Multibranch, Multicall, Noreturn, Checksum, Limit}
 use Rattle.wc_model.specs.declared.inputs.Edit.{Edit}
 use Rattle.wc_model.specs.declared.inputs.Edit.TheVariants.{Add, Hardware as Timing}
-use Rattle.wc_model.specs.Closures.{touches_any, last_touch}
-use Rattle.wc_model.specs.Edits.{Setting, bare, edited, all_edited, edits_of}
-use Rattle.wc_model.specs.History.{Opening, State, Ask, Chain, EachRight, IsLegal, opening_entries, fact_entries, state_after, opened, replay, start, is_free, is_session, ask_at, home_of, bound_kind}
+use Rattle.wc_model.specs.Workspace.Closures.{touches_any, last_touch}
+use Rattle.wc_model.specs.Workspace.Edits.{Setting, bare, edited, all_edited, edits_of}
+use Rattle.wc_model.specs.Workspace.History.{Opening, State, Ask, Chain, EachRight, IsLegal, opening_entries, fact_entries, state_after, opened, replay, start, is_free, is_session, ask_at, home_of, bound_kind}
 use Rattle.wc_model.proofs.Replays.{Kept, length-opening_entries}
 use Rattle.wc_core.specs.declared.store.Slot.{Slot}
 use Rattle.wc_core.specs.Answers.{LeavesFree, LeavesAllFree, RunsNothing}

@@ -5,8 +5,8 @@ use Rattle.wc_model.specs.declared.entries.End.{End}
 use Rattle.wc_model.specs.declared.entries.Entry.TheVariants.{Edit as EditEntry, NoFact, Pin, Start, Finish, Answer, List as ListEntry}
 use Rattle.wc_model.specs.declared.inputs.Edit.{Edit}
 use Rattle.wc_model.specs.declared.values.Outcome.{Outcome}
-use Rattle.wc_model.specs.Closures.{has_kind}
-use Rattle.wc_model.specs.History.{Opening, State, Run, Ask, step, allow, start_step, finish_step, answer_step, after_edit, after_pin, after_start, after_finish, can_start, can_edit, is_free, is_live, is_memory, is_out, is_stored, within_reach, inputs_at, stamp_at, count_of, open_ask, own_run, home_of, with_home, with_ask, right_end, bound_kind}
+use Rattle.wc_model.specs.Workspace.Closures.{has_kind}
+use Rattle.wc_model.specs.Workspace.History.{Opening, State, Run, Ask, step, allow, start_step, finish_step, answer_step, after_edit, after_pin, after_start, after_finish, can_start, can_edit, is_free, is_live, is_memory, is_out, is_stored, within_reach, inputs_at, stamp_at, count_of, open_ask, own_run, home_of, with_home, with_ask, right_end, bound_kind}
 use Rattle.wc_core.specs.Holds.{Basis, opening_of}
 use Rattle.wc_core.proofs.Stored.{same_name_refl, same_number}
 

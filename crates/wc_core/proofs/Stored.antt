@@ -3,7 +3,7 @@ use Rattle.std.proofs.Common.{◌≡◌, ℕ, suc, Bool, true, false, not, ◌&&
 use Rattle.std.specs.Global.{Global}
 use Rattle.std.specs.declared.sync.Arc.{Arc}
 use Rattle.wc_model.specs.declared.inputs.Edit.{Edit}
-use Rattle.wc_model.specs.History.{Opening, State, Row, same_name, in_store, has_key, has_row, with_key, stored, with_room, is_touched, untouched_keys, bound_kind}
+use Rattle.wc_model.specs.Workspace.History.{Opening, State, Row, same_name, in_store, has_key, has_row, with_key, stored, with_room, is_touched, untouched_keys, bound_kind}
 use Rattle.wc_core.specs.declared.store.Slot.{Slot}
 use Rattle.wc_core.specs.Holds.{keys_of, row_of, emptied, slots_after, stamp_after, has_value, has_slot, filled, with_value}
 use Rattle.wc_core.specs.Views.{value_of}

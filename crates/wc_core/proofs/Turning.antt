@@ -5,9 +5,9 @@ use Rattle.wc_model.specs.declared.entries.Entry.{Entry}
 use Rattle.wc_model.specs.declared.entries.Entry.TheVariants.{Answer}
 use Rattle.wc_model.specs.declared.values.Outcome.{Outcome}
 use Rattle.wc_model.specs.declared.values.Outcome.TheVariants.{Bound, Fault, Memory}
-use Rattle.wc_model.specs.Closures.{has_kind}
-use Rattle.wc_model.specs.Edits.{Setting, after, after_edits}
-use Rattle.wc_model.specs.History.{Opening, State, Run, Ask, Chain, IsOutcome, is_session, own_run, ask_at, with_ask, home_of, in_store, stamp_at, same_name, within_reach, is_memory, bound_kind}
+use Rattle.wc_model.specs.Workspace.Closures.{has_kind}
+use Rattle.wc_model.specs.Workspace.Edits.{Setting, after, after_edits}
+use Rattle.wc_model.specs.Workspace.History.{Opening, State, Run, Ask, Chain, IsOutcome, is_session, own_run, ask_at, with_ask, home_of, in_store, stamp_at, same_name, within_reach, is_memory, bound_kind}
 use Rattle.wc_model.proofs.Sharing.{asked_same, asked_other, length-with_ask, LeavesOthers}
 use Rattle.wc_core.specs.Features.{Tells}
 use Rattle.wc_core.specs.Fits.{FitsTicket}

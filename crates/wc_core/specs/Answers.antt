@@ -8,8 +8,8 @@ use Rattle.wc_model.specs.declared.entries.Asked.{Asked}
 use Rattle.wc_model.specs.declared.entries.Listing.{Listing}
 use Rattle.wc_model.specs.declared.inputs.Edit.{Edit}
 use Rattle.wc_model.specs.declared.inputs.Edit.TheVariants.{Drop}
-use Rattle.wc_model.specs.Edits.{Setting, after, edits_of}
-use Rattle.wc_model.specs.History.{Opening, State, Chain, state_after, is_free, can_edit, is_live, home_of, stamp_at, count_of, bound_kind}
+use Rattle.wc_model.specs.Workspace.Edits.{Setting, after, edits_of}
+use Rattle.wc_model.specs.Workspace.History.{Opening, State, Chain, state_after, is_free, can_edit, is_live, home_of, stamp_at, count_of, bound_kind}
 use Rattle.wc_core.specs.declared.answers.Edited.{Edited}
 use Rattle.wc_core.specs.declared.answers.Edited.TheVariants.{Done, NoFact as NotLive}
 use Rattle.wc_core.specs.Fits.{FitsTicket, FitsFlight, FitsLanded}

@@ -3,11 +3,11 @@ use Rattle.std.proofs.Common.{◌≡◌, ℕ, List, [], ◌∷◌, Ok, Err, subs
 use Rattle.wc_model.specs.declared.values.Outcome.TheVariants as outcome
 use Rattle.wc_model.specs.declared.values.Value.{Value}
 use Rattle.wc_model.specs.declared.values.Value.TheVariants as value
-use Rattle.wc_model.specs.Chain.{chain}
-use Rattle.wc_model.specs.Closures.{closure}
-use Rattle.wc_model.specs.Edits.{Setting, AgreeOnAll}
-use Rattle.wc_model.specs.Feature.{IsFeature, outcome_of}
-use Rattle.wc_model.specs.History.{bound_kind}
+use Rattle.wc_model.specs.Workspace.Chain.{chain}
+use Rattle.wc_model.specs.Workspace.Closures.{closure}
+use Rattle.wc_model.specs.Workspace.Edits.{Setting, AgreeOnAll}
+use Rattle.wc_model.specs.Workspace.Feature.{IsFeature, outcome_of}
+use Rattle.wc_model.specs.Workspace.History.{bound_kind}
 use Rattle.wc_model.proofs.Agreeing.{chain_alike}
 use Rattle.wc_core.specs.Features.{Tells}
 use Rattle.wc_core.specs.Holds.{bound_alone, all_parts}

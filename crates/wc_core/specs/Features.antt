@@ -5,7 +5,7 @@ use Rattle.std.specs.declared.sync.Arc.{Arc}
 use Rattle.wc_model.specs.declared.kinds.Describe.{Describe}
 use Rattle.wc_model.specs.declared.values.Outcome.{Outcome}
 use Rattle.wc_model.specs.declared.values.Outcome.TheVariants.{Memory}
-use Rattle.wc_model.specs.Closures.{requires_of, order_of}
+use Rattle.wc_model.specs.Workspace.Closures.{requires_of, order_of}
 
 -- The place of a kind in the registry's order.
 abbrev pub place_of : ℕ → List ℕ → ℕ

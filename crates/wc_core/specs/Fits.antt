@@ -1,9 +1,9 @@
 -- When a ticket, a flight and a landed value fit a core.
 use Rattle.std.specs.Prelude.{ℕ, ◌+◌, ◌≤◌, Bool, true, false, ◌||◌, List, [], ◌∷◌, None, Some, ◌≡◌, IfSome, map}
 use Rattle.wc_model.specs.declared.entries.Entry.{Entry}
-use Rattle.wc_model.specs.Closures.{has_kind}
-use Rattle.wc_model.specs.Edits.{Setting}
-use Rattle.wc_model.specs.History.{Opening, State, Run, state_after, open_ask, own_run, inputs_at, stamp_at, bound_kind}
+use Rattle.wc_model.specs.Workspace.Closures.{has_kind}
+use Rattle.wc_model.specs.Workspace.Edits.{Setting}
+use Rattle.wc_model.specs.Workspace.History.{Opening, State, Run, state_after, open_ask, own_run, inputs_at, stamp_at, bound_kind}
 use Rattle.wc_core.specs.Views.{KnownTicket, KnownFlight, KnownLanded, ask_of}
 
 -- Of each kind that an ask has, its ticket holds a feature.

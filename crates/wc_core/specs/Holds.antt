@@ -10,9 +10,9 @@ use Rattle.wc_model.specs.declared.kinds.Describe.{Describe}
 use Rattle.wc_model.specs.declared.kinds.Part.{Part}
 use Rattle.wc_model.specs.declared.kinds.Part.TheVariants.{Steer, Loops, Limits, Cache, Cycles}
 use Rattle.wc_model.specs.declared.machine.Hardware.{Hardware}
-use Rattle.wc_model.specs.Closures.{has_kind, last_touch}
-use Rattle.wc_model.specs.Edits.{Setting, bare, all_edited}
-use Rattle.wc_model.specs.History.{Opening, State, Row, Run, Ask, Chain, is_session, ask_at, bound_kind, same_name, with_room}
+use Rattle.wc_model.specs.Workspace.Closures.{has_kind, last_touch}
+use Rattle.wc_model.specs.Workspace.Edits.{Setting, bare, all_edited}
+use Rattle.wc_model.specs.Workspace.History.{Opening, State, Row, Run, Ask, Chain, is_session, ask_at, bound_kind, same_name, with_room}
 use Rattle.wc_model.proofs.Replays.{Kept}
 use Rattle.wc_core.specs.declared.store.Slot.{Slot}
 use Rattle.wc_core.specs.Features.{Each}

@@ -3,9 +3,9 @@ use Rattle.std.specs.Prelude.{ℕ, Bool, true, false, ◌&&◌, ◌||◌, ◌==�
 use Rattle.wc_model.specs.declared.entries.Entry.{Entry}
 use Rattle.wc_model.specs.declared.values.Outcome.{Outcome}
 use Rattle.wc_model.specs.declared.values.Outcome.TheVariants.{Memory}
-use Rattle.wc_model.specs.Closures.{order_of}
-use Rattle.wc_model.specs.Edits.{Setting}
-use Rattle.wc_model.specs.History.{Opening, State, Run, Ask, Chain, state_after, same_name, home_of, within_reach, stamp_at, bound_kind}
+use Rattle.wc_model.specs.Workspace.Closures.{order_of}
+use Rattle.wc_model.specs.Workspace.Edits.{Setting}
+use Rattle.wc_model.specs.Workspace.History.{Opening, State, Run, Ask, Chain, state_after, same_name, home_of, within_reach, stamp_at, bound_kind}
 
 pub data Turn : Type 0 where
   answers : Turn

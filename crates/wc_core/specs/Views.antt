@@ -3,8 +3,8 @@ use Rattle.std.specs.Prelude.{ℕ, Bool, List, [], ◌∷◌, map, Option, None,
 use Rattle.std.specs.Global.{Global}
 use Rattle.std.specs.declared.sync.Arc.{Arc}
 use Rattle.wc_model.specs.declared.entries.Entry.{Entry}
-use Rattle.wc_model.specs.Edits.{Setting}
-use Rattle.wc_model.specs.History.{Opening, Ask}
+use Rattle.wc_model.specs.Workspace.Edits.{Setting}
+use Rattle.wc_model.specs.Workspace.History.{Opening, Ask}
 
 pub record Known : Type 0 where
   pub opening : Opening

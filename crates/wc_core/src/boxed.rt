@@ -1,7 +1,7 @@
 ghost use Rattle.std.specs.Prelude.{ℕ, ◌≡◌, ◌+◌, ◌-◌, ◌<◌, ◌^◌, ◌∷◌, [], IfOk};
 ghost use Rattle.std.specs.Arc.{arc_value};
-ghost use Rattle.wc_model.specs.Edits.{setting_of};
-ghost use Rattle.wc_model.specs.Feature.{IsFeature, outcome_of as outcome_of_value};
+ghost use Rattle.wc_model.specs.Workspace.Edits.{setting_of};
+ghost use Rattle.wc_model.specs.Workspace.Feature.{IsFeature, outcome_of as outcome_of_value};
 ghost use Rattle.wc_core.specs.Features.{HasRequired};
 ghost use Rattle.wc_core.specs.Holds.{bound_alone};
 
@@ -43,8 +43,8 @@ impl Work for Box<dyn Processor + Send> {
     type Value = Value;
 
     ghost use Rattle.std.specs.Prelude.{◌∷◌, []};
-    ghost use Rattle.wc_model.specs.Chain.{chain as chain_of};
-    ghost use Rattle.wc_model.specs.Feature.{IsFeature, outcome_of as outcome_of_value};
+    ghost use Rattle.wc_model.specs.Workspace.Chain.{chain as chain_of};
+    ghost use Rattle.wc_model.specs.Workspace.Feature.{IsFeature, outcome_of as outcome_of_value};
     ghost use Rattle.wc_core.specs.Boxes.{stable_feature, feature_tells};
     ghost use Rattle.wc_core.specs.Holds.{bound_alone};
 

@@ -1,6 +1,6 @@
 ghost use Rattle.std.specs.Prelude.{ℕ, ◌≡◌, ◌∷◌, [], ◌++◌, ◌+◌, true, false, IfOk, MatchResult, MatchOption};
-ghost use Rattle.wc_model.specs.Edits.{setting_of};
-ghost use Rattle.wc_model.specs.History.{IsLegal, can_edit, is_live};
+ghost use Rattle.wc_model.specs.Workspace.Edits.{setting_of};
+ghost use Rattle.wc_model.specs.Workspace.History.{IsLegal, can_edit, is_live};
 ghost use Rattle.wc_core.specs.Answers.{LeavesFree, KeepsOthers, EditIs, IsAccepted, IsRefused, IsListed, inputs_now, edit_count};
 ghost use Rattle.wc_core.specs.Holds.{stamp_after};
 

@@ -1,7 +1,7 @@
 ghost use Rattle.std.specs.Prelude.{ℕ, ◌≡◌, ◌∷◌, [], ◌++◌, ◌&&◌, true, false, IfOk, MatchOption};
-ghost use Rattle.wc_model.specs.Closures.{touches_any};
-ghost use Rattle.wc_model.specs.Edits.{setting_of, edited, fact_numbered, without_number, same_cycles, same_cache, same_start};
-ghost use Rattle.wc_model.specs.History.{can_edit, is_live};
+ghost use Rattle.wc_model.specs.Workspace.Closures.{touches_any};
+ghost use Rattle.wc_model.specs.Workspace.Edits.{setting_of, edited, fact_numbered, without_number, same_cycles, same_cache, same_start};
+ghost use Rattle.wc_model.specs.Workspace.History.{can_edit, is_live};
 ghost use Rattle.wc_core.specs.Holds.{all_parts, is_plain_fact};
 
 use std::alloc::{AllocError, Global};

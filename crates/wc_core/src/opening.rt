@@ -1,8 +1,8 @@
 ghost use Rattle.std.specs.Prelude.{ℕ, ◌≡◌, ◌∷◌, [], ◌+◌, ◌<◌, ◌≤◌, ◌^◌, IfOk, length, map, if◌then◌else◌};
 ghost use Rattle.wc_model.specs.declared.elf_image.Image.{Image};
-ghost use Rattle.wc_model.specs.Closures.{touches_any};
-ghost use Rattle.wc_model.specs.Edits.{bare, same_cycles};
-ghost use Rattle.wc_model.specs.History.{IsLegal, opening_entries, fact_entries};
+ghost use Rattle.wc_model.specs.Workspace.Closures.{touches_any};
+ghost use Rattle.wc_model.specs.Workspace.Edits.{bare, same_cycles};
+ghost use Rattle.wc_model.specs.Workspace.History.{IsLegal, opening_entries, fact_entries};
 ghost use Rattle.wc_core.specs.Answers.{LeavesFree, RunsNothing, AreRuns};
 ghost use Rattle.wc_core.specs.Features.{Each};
 ghost use Rattle.wc_core.specs.Holds.{all_parts, bound_alone, numbered_from, shared_opening, stamp_from};

@@ -28,7 +28,7 @@ pub struct Core<W: Work> {
 impl<W: Work> Model for Core<W> {
     ghost use Rattle.std.specs.Prelude.{◌≡◌, ◌≤◌, map, ◌∷◌, []};
     ghost use Rattle.std.specs.Vec.{vec_capacity};
-    ghost use Rattle.wc_model.specs.Edits.{setting_of};
+    ghost use Rattle.wc_model.specs.Workspace.Edits.{setting_of};
     ghost use Rattle.wc_core.specs.Features.{Each};
     ghost use Rattle.wc_core.specs.Holds.{IsCore, shared_opening, bound_alone};
     ghost use Rattle.wc_core.specs.Views.{Known};

@@ -2,7 +2,7 @@ ghost use Rattle.std.specs.Prelude.{ℕ, ◌≡◌, ◌+◌, ◌<◌, List, IfSo
 ghost use Rattle.wc_core.specs.Fits.{FitsFlight, FitsLanded};
 ghost use Rattle.wc_core.specs.Views.{given, AreCopies};
 ghost use Rattle.wc_model.specs.declared.entries.Entry.{Entry};
-ghost use Rattle.wc_model.specs.History.{Opening};
+ghost use Rattle.wc_model.specs.Workspace.History.{Opening};
 
 use crate::work::{Given, Job, Work};
 use std::alloc::{AllocError, Global};
@@ -25,7 +25,7 @@ pub struct Ticket<V> {
 
 impl<V> Model for Ticket<V> {
     ghost use Rattle.std.specs.Prelude.{length, ◌≡◌};
-    ghost use Rattle.wc_model.specs.Edits.{setting_of};
+    ghost use Rattle.wc_model.specs.Workspace.Edits.{setting_of};
     ghost use Rattle.wc_core.specs.Features.{Each};
     ghost use Rattle.wc_core.specs.Views.{KnownTicket, held};
 
@@ -57,7 +57,7 @@ pub struct Flight<W: Work> {
 
 impl<W: Work> Model for Flight<W> {
     ghost use Rattle.std.specs.Prelude.{◌≡◌, ◌<◌, ◌-◌, ◌^◌, []};
-    ghost use Rattle.wc_model.specs.Closures.{requires_of};
+    ghost use Rattle.wc_model.specs.Workspace.Closures.{requires_of};
     ghost use Rattle.wc_core.specs.Views.{KnownFlight};
 
     ghost Value = { KnownFlight W.Value };

@@ -2,8 +2,8 @@ ghost use Rattle.std.specs.Prelude.{ℕ, ◌≡◌, ◌+◌, ◌-◌, ◌<◌, �
 ghost use Rattle.std.specs.Arc.{arc_value};
 ghost use Rattle.wc_model.specs.declared.kinds.Describe.{Describe};
 ghost use Rattle.wc_model.specs.declared.values.Outcome.{Outcome};
-ghost use Rattle.wc_model.specs.Closures.{closure};
-ghost use Rattle.wc_model.specs.Edits.{Setting, setting_of, AgreeOnAll};
+ghost use Rattle.wc_model.specs.Workspace.Closures.{closure};
+ghost use Rattle.wc_model.specs.Workspace.Edits.{Setting, setting_of, AgreeOnAll};
 ghost use Rattle.wc_core.specs.Features.{HasRequired, Tells};
 
 use std::alloc::{AllocError, Global};

@@ -6,7 +6,7 @@ use Rattle.std.specs.declared.result.Result.{Result}
 use Rattle.std.specs.declared.result.Result.TheVariants.{Ok, Err}
 use Rattle.wc_base.specs.declared.troubles.Trouble.{Trouble}
 use Rattle.wc_base.specs.declared.troubles.Trouble.TheVariants.{Fault as Refused, Memory}
-use Rattle.wc_model.specs.Image.{first_fault}
+use Rattle.wc_model.specs.Program.Image.{first_fault}
 use Rattle.wc_elf.specs.Readings.{Stops, Reads}
 
 -- the entries from the index on

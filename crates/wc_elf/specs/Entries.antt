@@ -1,6 +1,6 @@
 -- The entries of a file's tables as they are read.
 use Rattle.std.specs.Prelude.{ℕ, ◌≡◌, List}
-use Rattle.wc_model.specs.Elf.{is_executable, p_offset, p_vaddr, p_filesz, sh_type, sh_offset, sh_size, sh_link, st_name, st_value, st_type, st_shndx}
+use Rattle.wc_model.specs.Program.Elf.{is_executable, p_offset, p_vaddr, p_filesz, sh_type, sh_offset, sh_size, sh_link, st_name, st_value, st_type, st_shndx}
 use Rattle.wc_elf.specs.declared.headers.Segment.{Segment}
 use Rattle.wc_elf.specs.declared.headers.Section.{Section}
 use Rattle.wc_elf.specs.declared.headers.Symbol.{Symbol}

@@ -5,7 +5,7 @@ use Rattle.std.specs.declared.result.Result.TheVariants.{Ok, Err}
 use Rattle.wc_base.specs.declared.faults.Fault.{Fault}
 use Rattle.wc_base.specs.declared.troubles.Trouble.{Trouble}
 use Rattle.wc_base.specs.declared.troubles.Trouble.TheVariants.{Fault as Refused, Memory}
-use Rattle.wc_model.specs.Image.{first_fault}
+use Rattle.wc_model.specs.Program.Image.{first_fault}
 use Rattle.wc_model.specs.declared.elf_image.Range.{Range}
 
 -- the checks pass, or the first that fails gives the fault

@@ -1,6 +1,6 @@
 -- A symbol table and its strings, as the file's section headers tell them.
 use Rattle.std.specs.Prelude.{ℕ, ◌≡◌, ◌+◌, ◌*◌, ◌/◌, ◌≤◌, List, length}
-use Rattle.wc_model.specs.Elf.{sh_offset, sh_size, linked}
+use Rattle.wc_model.specs.Program.Elf.{sh_offset, sh_size, linked}
 use Rattle.wc_elf.specs.declared.sections.SymbolTable.{SymbolTable}
 
 pub record IsSymbolTable (file : List ℕ) (section : ℕ) (table : SymbolTable) : Type 0 where

@@ -1,5 +1,5 @@
 ghost use Rattle.std.specs.Prelude.{◌≡◌, ◌+◌, ◌≤◌, length};
-ghost use Rattle.wc_model.specs.Elf.{half as half_of, word as word_of};
+ghost use Rattle.wc_model.specs.Program.Elf.{half as half_of, word as word_of};
 
 use byteorder::{ByteOrder, LittleEndian};
 

@@ -1,7 +1,7 @@
 ghost use Rattle.std.specs.Prelude.{◌≡◌, ◌+◌, ◌++◌, ◌≤◌, All, IfOk, OnOk, Some, length};
 ghost use Rattle.wc_base.specs.Troubles.{IfFault};
 ghost use Rattle.wc_elf.specs.Readings.{Checks, IsInside, Reads};
-ghost use Rattle.wc_model.specs.Image.{IsImageOf, header_checks, image_fault, name_checks, names_of, range_checks, ranges_of};
+ghost use Rattle.wc_model.specs.Program.Image.{IsImageOf, header_checks, image_fault, name_checks, names_of, range_checks, ranges_of};
 
 use crate::fields::{half, word};
 use crate::labels::read_names;

@@ -2,8 +2,8 @@ ghost use Rattle.std.specs.Prelude.{◌≡◌, ◌+◌, ◌*◌, ◌++◌, ◌�
 ghost use Rattle.wc_elf.specs.Readings.{Checks, Reads};
 ghost use Rattle.wc_elf.specs.Strings.{AreEnds};
 ghost use Rattle.wc_elf.specs.SymbolTables.{IsSymbolTable};
-ghost use Rattle.wc_model.specs.Elf.{contents, e_shnum, e_shoff, linked, symbols};
-ghost use Rattle.wc_model.specs.Image.{label_checks, label_name, name_checks, names_of, section_names as section_names_of, symbol_checks};
+ghost use Rattle.wc_model.specs.Program.Elf.{contents, e_shnum, e_shoff, linked, symbols};
+ghost use Rattle.wc_model.specs.Program.Image.{label_checks, label_name, name_checks, names_of, section_names as section_names_of, symbol_checks};
 
 use crate::fields::{half, word};
 use crate::headers::{Symbol, symbol_at};

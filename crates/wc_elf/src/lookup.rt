@@ -1,5 +1,5 @@
 ghost use Rattle.std.specs.Prelude.{◌≡◌, ◌+◌, ◌≤◌, length};
-ghost use Rattle.wc_model.specs.Words.{find_of, is_called as is_called_of};
+ghost use Rattle.wc_model.specs.Program.Words.{find_of, is_called as is_called_of};
 
 use wc_base::{Addr, Fault};
 use wc_model::{Image, Name};

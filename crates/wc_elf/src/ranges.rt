@@ -1,7 +1,7 @@
 ghost use Rattle.std.specs.Prelude.{◌≡◌, ◌+◌, ◌*◌, ◌≤◌, ◌++◌, All, IfOk, IfSome, OnOk, flat_map, length, option_to_list};
 ghost use Rattle.wc_elf.specs.Readings.{Checks, IsInside, Reads};
-ghost use Rattle.wc_model.specs.Elf.{entries};
-ghost use Rattle.wc_model.specs.Image.{range_checks, ranges_of, segment_checks, segment_range};
+ghost use Rattle.wc_model.specs.Program.Elf.{entries};
+ghost use Rattle.wc_model.specs.Program.Image.{range_checks, ranges_of, segment_checks, segment_range};
 
 use crate::fields::{half, word};
 use crate::headers::segment_at;

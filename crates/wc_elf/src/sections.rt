@@ -1,8 +1,8 @@
 ghost use Rattle.std.specs.Prelude.{◌≡◌, ◌+◌, ◌*◌, ◌≤◌, ◌==◌, IfOk, IfSome, find, length, nat_le};
 ghost use Rattle.wc_elf.specs.Readings.{Checks};
 ghost use Rattle.wc_elf.specs.SymbolTables.{IsSymbolTable};
-ghost use Rattle.wc_model.specs.Elf.{e_shnum, e_shoff, entries, sh_type};
-ghost use Rattle.wc_model.specs.Image.{symbol_section_checks};
+ghost use Rattle.wc_model.specs.Program.Elf.{e_shnum, e_shoff, entries, sh_type};
+ghost use Rattle.wc_model.specs.Program.Image.{symbol_section_checks};
 
 use crate::fields::{half, word};
 use crate::headers::{Section, section_at};

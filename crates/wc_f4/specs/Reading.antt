@@ -4,7 +4,7 @@ use Rattle.wc_base.specs.declared.faults.Fault.{Fault}
 use Rattle.wc_base.specs.declared.faults.Fault.TheVariants.{BadFact, UnknownLabel}
 use Rattle.wc_base.specs.declared.troubles.Trouble.{Trouble}
 use Rattle.wc_base.specs.declared.troubles.Trouble.TheVariants.{Fault as Refused, Memory}
-use Rattle.wc_model.specs.Words.{find_of}
+use Rattle.wc_model.specs.Program.Words.{find_of}
 use Rattle.wc_model.specs.declared.elf_image.Image.{Image}
 use Rattle.wc_model.specs.declared.flow_facts.Fact.{Fact}
 use Rattle.wc_f4.specs.declared.stops.Stop.{Stop}

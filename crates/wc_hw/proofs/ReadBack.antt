@@ -15,7 +15,7 @@ use Rattle.wc_model.specs.declared.machine.Cache.{Cache}
 use Rattle.wc_model.specs.declared.machine.Cycles.{Cycles}
 use Rattle.wc_model.specs.declared.machine.Hardware.{Hardware}
 use Rattle.wc_model.specs.declared.machine.StartState.{StartState}
-use Rattle.wc_model.specs.Ranges.{is_set_count, is_way_count, is_line_size}
+use Rattle.wc_model.specs.Cache.Ranges.{is_set_count, is_way_count, is_line_size}
 use Rattle.wc_hw.specs.HardwareText.{hardware_text}
 use Rattle.wc_hw.proofs.Trees.{tree, cycles_tree, cache_tree, data_of, cycles_data, cache_data, text_is}
 

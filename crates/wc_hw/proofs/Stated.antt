@@ -5,7 +5,7 @@ use Rattle.std.proofs.lemmas.Fmt.{IsAscii-decimal}
 use Rattle.std.proofs.lemmas.Str.{IsUtf8-append, IsUtf8-from_ascii, IsUtf8-nil}
 use Rattle.json.proofs.Printed.Utf8.{IsUtf8-are_ascii, are_ascii}
 use Rattle.serde_json.specs.Data.{Data}
-use Rattle.wc_model.specs.Ranges.{is_set_count, is_way_count, is_line_size, uncached_costs_nothing}
+use Rattle.wc_model.specs.Cache.Ranges.{is_set_count, is_way_count, is_line_size, uncached_costs_nothing}
 use Rattle.wc_model.specs.declared.machine.Cache.{Cache}
 use Rattle.wc_model.specs.declared.machine.Cycles.{Cycles}
 use Rattle.wc_model.specs.declared.machine.Hardware.{Hardware}

@@ -4,7 +4,7 @@ use Rattle.serde_json.specs.Data.{Data, Members, no_members, member}
 use Rattle.serde_json.specs.Find.{get, as_null, as_number, as_object, as_str, as_u64}
 use Rattle.wc_base.specs.declared.faults.FieldWord.{FieldWord}
 use Rattle.wc_base.specs.declared.faults.FieldWord.TheVariants as word
-use Rattle.wc_model.specs.Ranges.{is_line_size, is_set_count, is_way_count}
+use Rattle.wc_model.specs.Cache.Ranges.{is_line_size, is_set_count, is_way_count}
 use Rattle.wc_model.specs.declared.machine.Cache.{Cache}
 use Rattle.wc_model.specs.declared.machine.Cycles.{Cycles}
 use Rattle.wc_model.specs.declared.machine.Hardware.{Hardware}

@@ -16,13 +16,13 @@ use Rattle.wc_model.specs.declared.kinds.Part.TheVariants.{Steer, Cycles as Cycl
 use Rattle.wc_model.specs.declared.machine.Cycles.{Cycles}
 use Rattle.wc_model.specs.declared.machine.Hardware.{Hardware}
 use Rattle.wc_model.specs.declared.values.Outcome.{Outcome}
-use Rattle.wc_model.specs.Chain.{IsUnbuiltCode, faulty, unbuilt, loops, many, IsGreatest, IsChain, unnamed, bounded, chain}
-use Rattle.wc_model.specs.Edits.{Setting, belongs, same_cycles, AgreeOn}
-use Rattle.wc_model.specs.Paths.{Reaches, here, along, Leads, IsPath, class_cycles, known_cycles, step_cycles, path_cycles}
-use Rattle.wc_model.specs.Positions.{Position, start_of}
-use Rattle.wc_model.specs.Steps.{Step, jumps_stated, calls_stated, is_noreturn, jump_targets, call_targets, rising_once, recurs, call_fault, jump_fault, control_fault, insn_fault, word_fault, fault_at, jump_to, call_to, taken_targets, taken_step, passes_on, next_of, insn_at, steps_unless, steps_known, steps_of}
-use Rattle.wc_model.specs.Words.{word_at}
-use Rattle.wc_model.specs.Instruction.{insn_of}
+use Rattle.wc_model.specs.Workspace.Chain.{IsUnbuiltCode, faulty, unbuilt, loops, many, IsGreatest, IsChain, unnamed, bounded, chain}
+use Rattle.wc_model.specs.Workspace.Edits.{Setting, belongs, same_cycles, AgreeOn}
+use Rattle.wc_model.specs.Program.Paths.{Reaches, here, along, Leads, IsPath, class_cycles, known_cycles, step_cycles, path_cycles}
+use Rattle.wc_model.specs.Program.Positions.{Position, start_of}
+use Rattle.wc_model.specs.Program.Steps.{Step, jumps_stated, calls_stated, is_noreturn, jump_targets, call_targets, rising_once, recurs, call_fault, jump_fault, control_fault, insn_fault, word_fault, fault_at, jump_to, call_to, taken_targets, taken_step, passes_on, next_of, insn_at, steps_unless, steps_known, steps_of}
+use Rattle.wc_model.specs.Program.Words.{word_at}
+use Rattle.wc_model.specs.Program.Instruction.{insn_of}
 
 -- The facts of control flow say the same in two lists.
 pub record SameSteering (fs gs : List FlowFact) : Type 0 where
@@ -38,7 +38,7 @@ steering fs = filter (λ (f : ℕ × FlowFact). belongs Steer f.1) fs
 
 jumps_kept : (pc : ℕ) (fs : List (ℕ × FlowFact)) → flat_map (jumps_stated pc) (stated fs) ≡ flat_map (jumps_stated pc) (stated (steering fs))
 jumps_kept pc [] = refl
-jumps_kept pc ((n, Loop at bound) ∷ fs) = jumps_kept pc fs
+jumps_kept pc ((n, Loop at bound within) ∷ fs) = jumps_kept pc fs
 jumps_kept pc ((n, Multibranch at to) ∷ fs) = ap (λ l. jumps_stated pc (Multibranch at to) ++ l) (jumps_kept pc fs)
 jumps_kept pc ((n, Multicall at to) ∷ fs) = jumps_kept pc fs
 jumps_kept pc ((n, Noreturn at) ∷ fs) = jumps_kept pc fs
@@ -47,7 +47,7 @@ jumps_kept pc ((n, Limit left right) ∷ fs) = jumps_kept pc fs
 
 calls_kept : (pc : ℕ) (fs : List (ℕ × FlowFact)) → flat_map (calls_stated pc) (stated fs) ≡ flat_map (calls_stated pc) (stated (steering fs))
 calls_kept pc [] = refl
-calls_kept pc ((n, Loop at bound) ∷ fs) = calls_kept pc fs
+calls_kept pc ((n, Loop at bound within) ∷ fs) = calls_kept pc fs
 calls_kept pc ((n, Multibranch at to) ∷ fs) = calls_kept pc fs
 calls_kept pc ((n, Multicall at to) ∷ fs) = ap (λ l. calls_stated pc (Multicall at to) ++ l) (calls_kept pc fs)
 calls_kept pc ((n, Noreturn at) ∷ fs) = calls_kept pc fs
@@ -56,7 +56,7 @@ calls_kept pc ((n, Limit left right) ∷ fs) = calls_kept pc fs
 
 silent_kept : (callee : ℕ) (fs : List (ℕ × FlowFact)) → is_noreturn (stated fs) callee ≡ is_noreturn (stated (steering fs)) callee
 silent_kept callee [] = refl
-silent_kept callee ((n, Loop at bound) ∷ fs) = silent_kept callee fs
+silent_kept callee ((n, Loop at bound within) ∷ fs) = silent_kept callee fs
 silent_kept callee ((n, Multibranch at to) ∷ fs) = silent_kept callee fs
 silent_kept callee ((n, Multicall at to) ∷ fs) = silent_kept callee fs
 silent_kept callee ((n, Noreturn at) ∷ fs) = ap (λ b. at == callee || b) (silent_kept callee fs)

@@ -8,8 +8,8 @@ use Rattle.wc_model.specs.declared.machine.Cache.{Cache}
 use Rattle.wc_model.specs.declared.machine.Cycles.{Cycles}
 use Rattle.wc_model.specs.declared.machine.StartState.{StartState}
 use Rattle.wc_model.specs.declared.machine.StartState.TheVariants.{Empty, Any}
-use Rattle.wc_model.specs.Closures.{touches_any, last_touch}
-use Rattle.wc_model.specs.Edits.{Setting, bare, edited, all_edited, after_edits, same_cycles, same_start, same_cache, AgreeOn, AgreeOnAll}
+use Rattle.wc_model.specs.Workspace.Closures.{touches_any, last_touch}
+use Rattle.wc_model.specs.Workspace.Edits.{Setting, bare, edited, all_edited, after_edits, same_cycles, same_start, same_cache, AgreeOn, AgreeOnAll}
 use Rattle.wc_model.proofs.Replays.{all_edited-append, last_touch-append}
 use Rattle.wc_model.proofs.Untouched.{agree_untouched}
 

@@ -6,8 +6,8 @@ use Rattle.std.proofs.lemmas.List.{get_or-set_same, get_or-set_other}
 use Rattle.std.proofs.lemmas.List.Elements.{Contains-push, Contains-push_cases, Contains-append_left}
 use Rattle.std.proofs.lemmas.Option.{none-some, same_Some}
 use Rattle.wc_model.specs.declared.flow_system.SystemStep.{SystemStep}
-use Rattle.wc_model.specs.Greatest.{cost_ahead, cost_through, option_max, IsGreatestOf}
-use Rattle.wc_model.specs.Walks.{AreStepsOf, IsWalk, walk_cost, IsOrdered, IsBest}
+use Rattle.wc_model.specs.Inner.Greatest.{cost_ahead, cost_through, option_max, IsGreatestOf}
+use Rattle.wc_model.specs.Flow.Walks.{AreStepsOf, IsWalk, walk_cost, IsOrdered, IsBest}
 
 -- one more element
 pub greatest_push : {X : Type 0} (f : X → Option ℕ) (xs : List X) (x : X) (g y : Option ℕ) → f x ≡ y → IsGreatestOf f xs g → IsGreatestOf f (xs ++ x ∷ []) (option_max g y)

@@ -5,7 +5,7 @@ use Rattle.std.proofs.lemmas.Bool.{cases_lt}
 use Rattle.std.proofs.lemmas.List.{get_or-take, get_or-drop, length-take, length-drop}
 use Rattle.std.proofs.lemmas.Option.{get_or_from_slice_get, slice_get-get_or}
 use Rattle.wc_model.specs.declared.flow_system.SystemStep.{SystemStep}
-use Rattle.wc_model.specs.Walks.{AreStarts, AreStepsOf}
+use Rattle.wc_model.specs.Flow.Walks.{AreStarts, AreStepsOf}
 use Rattle.wc_model.proofs.Places.{contains_from_get, get_from_contains, get_within}
 
 module _ (steps : List SystemStep) (starts : List ℕ) (p from to : ℕ) (parts : AreStarts (length starts) steps starts) (known : p + 1 < length starts) (is_from : from ≡ slice_index starts p) (is_to : to ≡ slice_index starts (p + 1)) where

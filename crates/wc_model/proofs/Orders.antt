@@ -3,7 +3,7 @@ use Rattle.std.proofs.Common.{ℕ, zero, suc, ◌≡◌, ◌+◌, ◌<◌, ◌�
 use Rattle.std.specs.List.{Contains, slice_get}
 use Rattle.std.proofs.lemmas.List.Elements.{All-contains, All-weaker, All-contains_itself}
 use Rattle.wc_model.specs.declared.flow_system.SystemStep.{SystemStep}
-use Rattle.wc_model.specs.Walks.{AreSteps, Reaches, here, along, Leads, IsOrdered, IsOrder, IsWalk, IsBest, HasStep, IsCostFrom}
+use Rattle.wc_model.specs.Flow.Walks.{AreSteps, Reaches, here, along, Leads, IsOrdered, IsOrder, IsWalk, IsBest, HasStep, IsCostFrom}
 use Rattle.wc_model.proofs.Places.{contains_from_get, get_from_contains}
 
 module _ (steps : List SystemStep) (order : List ℕ) (ordered : IsOrdered steps order) where

@@ -6,9 +6,9 @@ use Rattle.wc_model.specs.declared.entries.Entry.{Entry}
 use Rattle.wc_model.specs.declared.flow_facts.Fact.{Fact}
 use Rattle.wc_model.specs.declared.inputs.Edit.{Edit}
 use Rattle.wc_model.specs.declared.kinds.Part.{Part}
-use Rattle.wc_model.specs.Closures.{touches_any, last_touch}
-use Rattle.wc_model.specs.Edits.{Setting, edit_of, edits_of, edited, all_edited}
-use Rattle.wc_model.specs.History.{Opening, State, Chain, IsRight, EachRight, IsLegal, step, stepped, replay, state_after, opened, opening_entries, fact_entries, start}
+use Rattle.wc_model.specs.Workspace.Closures.{touches_any, last_touch}
+use Rattle.wc_model.specs.Workspace.Edits.{Setting, edit_of, edits_of, edited, all_edited}
+use Rattle.wc_model.specs.Workspace.History.{Opening, State, Chain, IsRight, EachRight, IsLegal, step, stepped, replay, state_after, opened, opening_entries, fact_entries, start}
 
 pub replay-append : (o : Opening) (st : Option State) (es fs : List Entry) → replay o st (es ++ fs) ≡ replay o (replay o st es) fs
 replay-append o st [] fs = refl

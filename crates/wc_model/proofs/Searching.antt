@@ -9,8 +9,8 @@ use Rattle.std.proofs.lemmas.Option.{none-some, same_Some, slice_get_within, get
 use Rattle.wc_model.specs.declared.flow_system.SystemStep.{SystemStep}
 use Rattle.wc_model.specs.declared.walks.search.Mark.{Mark}
 use Rattle.wc_model.specs.declared.walks.search.Mark.TheVariants.{New, Open, Done}
-use Rattle.wc_model.specs.Searches.{IsSearchOf, IsNextStep, weight}
-use Rattle.wc_model.specs.Walks.{AreSteps, AreStarts, Reaches, here, along, Leads, IsOrdered, IsOrder}
+use Rattle.wc_model.specs.Inner.Searches.{IsSearchOf, IsNextStep, weight}
+use Rattle.wc_model.specs.Flow.Walks.{AreSteps, AreStarts, Reaches, here, along, Leads, IsOrdered, IsOrder}
 use Rattle.wc_model.proofs.Starting.{sorted_at}
 use Rattle.wc_model.proofs.Places.{contains_from_get, get_within, get_from_contains, get_left, get_push, get_push_cases, get_set_cases, get_set, get_set_other}
 

@@ -12,8 +12,8 @@ use Rattle.wc_model.specs.declared.machine.Cache.{Cache}
 use Rattle.wc_model.specs.declared.machine.Cycles.{Cycles}
 use Rattle.wc_model.specs.declared.machine.StartState.{StartState}
 use Rattle.wc_model.specs.declared.machine.StartState.TheVariants.{Empty, Any}
-use Rattle.wc_model.specs.Closures.{touches_any}
-use Rattle.wc_model.specs.Edits.{Setting, edited, touches, touches_fact, belongs, fact_numbered, without_number, same_cycles, same_start, same_cache, AgreeOn, AgreeOnAll}
+use Rattle.wc_model.specs.Workspace.Closures.{touches_any}
+use Rattle.wc_model.specs.Workspace.Edits.{Setting, edited, touches, touches_fact, belongs, fact_numbered, without_number, same_cycles, same_start, same_cache, AgreeOn, AgreeOnAll}
 
 itself : (n : ℕ) → (n == n) ≡ true
 itself n = eq-eqb n n refl

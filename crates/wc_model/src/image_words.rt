@@ -1,5 +1,5 @@
 ghost use Rattle.std.specs.Prelude.{◌≡◌};
-ghost use Rattle.wc_model.specs.Words.{word_at};
+ghost use Rattle.wc_model.specs.Program.Words.{word_at};
 
 use crate::Image;
 use byteorder::{ByteOrder, LittleEndian};

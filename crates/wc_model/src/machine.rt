@@ -1,5 +1,5 @@
 ghost use Rattle.std.specs.Prelude.{◌≤◌, IsTrue};
-ghost use Rattle.wc_model.specs.Ranges.{are_cache_numbers, uncached_costs_nothing};
+ghost use Rattle.wc_model.specs.Cache.Ranges.{are_cache_numbers, uncached_costs_nothing};
 
 /// Cycles of each instruction class, of a taken step, of each register of a load or store multiple, and of
 /// a fetch that hits or misses the instruction cache.

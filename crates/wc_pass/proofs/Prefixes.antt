@@ -4,7 +4,7 @@ use Rattle.std.proofs.lemmas.List.{append-nil}
 use Rattle.std.proofs.lemmas.List.Elements.{filter-append}
 use Rattle.std.proofs.lemmas.Bool.{ne_eqb}
 use Rattle.wc_model.specs.declared.entries.Entry.{Entry}
-use Rattle.wc_model.specs.Entries.{session_of, entries_of}
+use Rattle.wc_model.specs.Workspace.Entries.{session_of, entries_of}
 use Rattle.wc_pass.specs.Known.{IsPrefix}
 
 pub prefix_refl : (a : List Entry) → IsPrefix a a

@@ -7,7 +7,7 @@ use lib.ListN.{get_elem?}
 use Rattle.atomic_table.specs.Table.{State, Me, Allows, Splits, Joins, keeps}
 use Rattle.atomic_table.proofs.Lists.{at_last, set_else, set_here}
 use Rattle.wc_model.specs.declared.entries.Entry.{Entry}
-use Rattle.wc_model.specs.Entries.{session_of, entries_of}
+use Rattle.wc_model.specs.Workspace.Entries.{session_of, entries_of}
 use Rattle.wc_pass.specs.declared.views.View.{View}
 use Rattle.wc_pass.specs.Known.{IsPrefix, longer}
 use Rattle.wc_pass.specs.Rule.{AreOutgrown, Learned, Fits, Kept}

@@ -3,7 +3,7 @@ use Rattle.std.specs.Prelude.{ℕ, ◌≡◌, ◌≢◌, ◌≤◌, true, List, 
 use mathlib.Core.Option.{some}
 use lib.ListN.{get_elem?}
 use Rattle.wc_model.specs.declared.entries.Entry.{Entry}
-use Rattle.wc_model.specs.Entries.{entries_of}
+use Rattle.wc_model.specs.Workspace.Entries.{entries_of}
 use Rattle.wc_pass.specs.declared.views.Old.{Old}
 use Rattle.wc_pass.specs.declared.views.View.{View}
 use Rattle.wc_pass.specs.Known.{IsPrefix}

@@ -1,5 +1,5 @@
 ghost use Rattle.std.specs.Prelude.{◌≡◌, ◌≢◌, ◌+◌, ◌-◌, ◌^◌, ◌<◌, true, false, [], length, IfOk};
-ghost use Rattle.wc_model.specs.Entries.{session_of};
+ghost use Rattle.wc_model.specs.Workspace.Entries.{session_of};
 ghost use Rattle.wc_pass.specs.Known.{new_passes};
 ghost use Rattle.wc_pass.specs.Rule.{Learned};
 ghost use Rattle.wc_pass.specs.Views.{added, cleared, first_view, one_more, new_pass, copy_of, without_role, role_of, with_copy, with_role};

@@ -1,5 +1,5 @@
 ghost use Rattle.std.specs.Prelude.{◌≡◌, ◌≢◌, ◌+◌, false, [], length};
-ghost use Rattle.wc_model.specs.Entries.{entries_of};
+ghost use Rattle.wc_model.specs.Workspace.Entries.{entries_of};
 ghost use Rattle.wc_pass.specs.Known.{IsPrefix, longer};
 
 use crate::Desk;

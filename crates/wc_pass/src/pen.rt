@@ -1,5 +1,5 @@
 ghost use Rattle.std.specs.Prelude.{◌≡◌, ◌+◌, ◌-◌, ◌^◌, ◌<◌, true, [], ◌∷◌, ◌++◌, length};
-ghost use Rattle.wc_model.specs.Entries.{session_of, entries_of};
+ghost use Rattle.wc_model.specs.Workspace.Entries.{session_of, entries_of};
 ghost use Rattle.wc_pass.specs.Known.{IsPrefix};
 
 use crate::views::View;

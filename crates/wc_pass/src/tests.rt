@@ -1,5 +1,5 @@
 ghost use Rattle.std.specs.Prelude.{◌≡◌, ◌+◌, ◌-◌, ◌<◌, ◌^◌, length, All};
-ghost use Rattle.wc_model.specs.Entries.{session_of};
+ghost use Rattle.wc_model.specs.Workspace.Entries.{session_of};
 
 use super::*;
 use std::marker::{Brand, PhantomData};

@@ -7,7 +7,7 @@ use Rattle.wc_model.specs.declared.entries.Entry.TheVariants.{List as ListEntry}
 use Rattle.wc_model.specs.declared.entries.Listing.{Listing as Listed}
 use Rattle.wc_model.specs.declared.inputs.Edit.{Edit}
 use Rattle.wc_model.specs.declared.inputs.Edit.TheVariants.{Add, Drop, Hardware as Timing}
-use Rattle.wc_model.specs.Edits.{Setting, after, all_edited, bare, edited, edits_of, without_number}
+use Rattle.wc_model.specs.Workspace.Edits.{Setting, after, all_edited, bare, edited, edits_of, without_number}
 use Rattle.wc_model.proofs.Replays.{edits_of-append}
 use Rattle.wc_core.specs.Answers.{IsListed, inputs_now}
 use Rattle.wc_core.specs.Views.{Known}

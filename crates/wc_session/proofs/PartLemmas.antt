@@ -8,7 +8,7 @@ use Rattle.wc_model.specs.declared.elf_image.Image.{Image}
 use Rattle.wc_model.specs.declared.entries.Ended.{Ended}
 use Rattle.wc_model.specs.declared.entries.Ended.TheVariants as ended
 use Rattle.wc_model.specs.declared.entries.Entry.{Entry}
-use Rattle.wc_model.specs.History.{Chain}
+use Rattle.wc_model.specs.Workspace.History.{Chain}
 use Rattle.wc_core.specs.Answers.{LeavesFree}
 use Rattle.wc_core.specs.Features.{Each}
 use Rattle.wc_core.specs.Views.{Known}

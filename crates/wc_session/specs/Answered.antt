@@ -4,7 +4,7 @@ use Rattle.wc_base.specs.declared.faults.Fault.{Fault}
 use Rattle.wc_base.specs.declared.faults.Fault.TheVariants.{LongLine, NoFact, TooMuch}
 use Rattle.wc_core.specs.Features.{Each}
 use Rattle.wc_io.specs.Lines.{LineResult, given, too_long, too_much}
-use Rattle.wc_model.specs.Edits.{after}
+use Rattle.wc_model.specs.Workspace.Edits.{after}
 use Rattle.wc_model.specs.declared.elf_image.Image.{Image}
 use Rattle.wc_model.specs.declared.entries.Asked.{Asked}
 use Rattle.wc_model.specs.declared.entries.Entry.{Entry}

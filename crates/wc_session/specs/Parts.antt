@@ -9,7 +9,7 @@ use Rattle.wc_core.specs.Views.{Known}
 use Rattle.wc_io.specs.Causes.{Rose}
 use Rattle.wc_io.specs.Lines.{LineResult, given, too_much}
 use Rattle.wc_io.specs.Writing.{AppendsPart}
-use Rattle.wc_model.specs.History.{Chain, IsLegal}
+use Rattle.wc_model.specs.Workspace.History.{Chain, IsLegal}
 use Rattle.wc_model.specs.declared.elf_image.Image.{Image}
 use Rattle.wc_model.specs.declared.entries.Asked.{Asked}
 use Rattle.wc_model.specs.declared.entries.Ended.{Ended}

@@ -1,7 +1,7 @@
 ghost use Rattle.std.specs.Prelude.{◌≡◌, ◌≤◌, IsFalse};
 ghost use Rattle.wc_core.specs.Answers.{LeavesFree};
 ghost use Rattle.wc_io.specs.Causes.{Rose};
-ghost use Rattle.wc_model.specs.History.{IsLegal};
+ghost use Rattle.wc_model.specs.Workspace.History.{IsLegal};
 ghost use Rattle.wc_session.specs.Served.{IsServed};
 
 use crate::serving::serve_all;

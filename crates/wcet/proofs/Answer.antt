@@ -9,11 +9,11 @@ use Rattle.wc_model.specs.declared.elf_image.Image.{Image}
 use Rattle.wc_model.specs.declared.flow_facts.Fact.{Fact}
 use Rattle.wc_model.specs.declared.flow_system.SystemStep.{SystemStep}
 use Rattle.wc_model.specs.declared.machine.Hardware.{Hardware}
-use Rattle.wc_model.specs.Chain.{IsUnbuiltInsn, IsUnbuiltCode, faulty, unbuilt, loops, many, IsGreatest}
-use Rattle.wc_model.specs.Paths.{Reaches}
-use Rattle.wc_model.specs.Positions.{Position, start_of}
-use Rattle.wc_model.specs.Steps.{fault_at, insn_at, steps_of}
-use Rattle.wc_model.specs.Walks.{AreSteps, Reaches as Joins, IsWalk, walk_cost, IsCycle, IsAcyclicFrom, HasStep, IsBest}
+use Rattle.wc_model.specs.Workspace.Chain.{IsUnbuiltInsn, IsUnbuiltCode, faulty, unbuilt, loops, many, IsGreatest}
+use Rattle.wc_model.specs.Program.Paths.{Reaches}
+use Rattle.wc_model.specs.Program.Positions.{Position, start_of}
+use Rattle.wc_model.specs.Program.Steps.{fault_at, insn_at, steps_of}
+use Rattle.wc_model.specs.Flow.Walks.{AreSteps, Reaches as Joins, IsWalk, walk_cost, IsCycle, IsAcyclicFrom, HasStep, IsBest}
 use Rattle.wcet.specs.declared.chain.code.Code.{Code}
 use Rattle.wcet.specs.Exploring.{IsTarget, IsExplored}
 use Rattle.wcet.specs.Numbers.{IsNumbered}

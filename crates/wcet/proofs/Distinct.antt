@@ -5,7 +5,7 @@ use Rattle.std.proofs.lemmas.Bool.Decides.{Decides-eqb}
 use Rattle.std.proofs.lemmas.Cmp.{nat_eq_equiv}
 use Rattle.std.proofs.lemmas.List.{length-map, get_or-map}
 use Rattle.std.proofs.lemmas.Map.Made.{IsDistinct-from_AllPairs, length-le_from_is_member, is_member-Decides}
-use Rattle.wc_model.specs.Positions.{Position, start_of}
+use Rattle.wc_model.specs.Program.Positions.{Position, start_of}
 use Rattle.wc_model.proofs.Places.{contains_from_get}
 
 module _ (ps : List Position) (ads : List ℕ) (apart : AllPairs (λ p q. p ≡ q → ⊥) ps) (at : All (λ (p : Position). (k : ℕ) × (a : ℕ) × (p ≡ start_of a) × (slice_get ads k ≡ Some a)) ps) where

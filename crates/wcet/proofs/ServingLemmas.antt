@@ -16,11 +16,11 @@ use Rattle.wc_model.specs.declared.entries.Entry.TheVariants as entry
 use Rattle.wc_model.specs.declared.inputs.Edit.{Edit}
 use Rattle.wc_model.specs.declared.values.Outcome.{Outcome}
 use Rattle.wc_model.specs.declared.values.Outcome.TheVariants as outcome
-use Rattle.wc_model.specs.Chain.{chain, bounded}
-use Rattle.wc_model.specs.Paths.{IsPath}
-use Rattle.wc_model.specs.Positions.{start_of}
-use Rattle.wc_model.specs.Edits.{Setting, edit_of, after_edits}
-use Rattle.wc_model.specs.History.{Opening, EachRight, IsRight}
+use Rattle.wc_model.specs.Workspace.Chain.{chain, bounded}
+use Rattle.wc_model.specs.Program.Paths.{IsPath}
+use Rattle.wc_model.specs.Program.Positions.{start_of}
+use Rattle.wc_model.specs.Workspace.Edits.{Setting, edit_of, after_edits}
+use Rattle.wc_model.specs.Workspace.History.{Opening, EachRight, IsRight}
 use Rattle.wc_session.specs.Served.{Gains}
 use Rattle.wc_core.specs.Answers.{AreRuns}
 use Rattle.wcet.specs.declared.loading.Loaded.{Loaded}

@@ -5,10 +5,10 @@ use Rattle.wc_model.specs.declared.flow_facts.Fact.{Fact}
 use Rattle.wc_model.specs.declared.flow_system.SystemStep.{SystemStep}
 use Rattle.wc_model.specs.declared.instructions.Insn.{Insn}
 use Rattle.wc_model.specs.declared.machine.Cycles.{Cycles}
-use Rattle.wc_model.specs.Chain.{IsUnbuiltInsn, IsUnbuiltCode}
-use Rattle.wc_model.specs.Paths.{Reaches, step_cycles}
-use Rattle.wc_model.specs.Positions.{Position, start_of}
-use Rattle.wc_model.specs.Steps.{Step, fault_at, insn_at, steps_of}
+use Rattle.wc_model.specs.Workspace.Chain.{IsUnbuiltInsn, IsUnbuiltCode}
+use Rattle.wc_model.specs.Program.Paths.{Reaches, step_cycles}
+use Rattle.wc_model.specs.Program.Positions.{Position, start_of}
+use Rattle.wc_model.specs.Program.Steps.{Step, fault_at, insn_at, steps_of}
 use Rattle.wcet.specs.declared.chain.code.Code.{Code}
 use Rattle.wcet.specs.Numbers.{IsNumbered}
 

@@ -8,12 +8,12 @@ use Rattle.wc_model.specs.declared.entries.Ended.{Ended}
 use Rattle.wc_model.specs.declared.entries.Ended.TheVariants.{ReadFault, WriteFault}
 use Rattle.wc_model.specs.declared.entries.Entry.{Entry}
 use Rattle.wc_model.specs.declared.values.Outcome.TheVariants.{Bound, Fault, Memory}
-use Rattle.wc_model.specs.Chain.{chain}
-use Rattle.wc_model.specs.History.{Opening, Chain, EachRight, IsLegal, opening_entries}
-use Rattle.wc_model.specs.Paths.{IsPath, path_cycles}
-use Rattle.wc_model.specs.Positions.{start_of}
-use Rattle.wc_model.specs.Steps.{Step}
-use Rattle.wc_model.specs.Words.{find_of}
+use Rattle.wc_model.specs.Workspace.Chain.{chain}
+use Rattle.wc_model.specs.Workspace.History.{Opening, Chain, EachRight, IsLegal, opening_entries}
+use Rattle.wc_model.specs.Program.Paths.{IsPath, path_cycles}
+use Rattle.wc_model.specs.Program.Positions.{start_of}
+use Rattle.wc_model.specs.Program.Steps.{Step}
+use Rattle.wc_model.specs.Program.Words.{find_of}
 use Rattle.wc_session.specs.Served.{IsServed}
 use Rattle.wcet.specs.declared.loading.Loaded.{Loaded}
 use Rattle.wcet.specs.Files.{Holds, AreInputs, paths_of}

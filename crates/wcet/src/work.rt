@@ -1,7 +1,7 @@
 ghost use Rattle.std.specs.Prelude.{◌≡◌, ◌∷◌, [], Some, IfOk};
 ghost use Rattle.wc_core.specs.Holds.{bound_alone};
-ghost use Rattle.wc_model.specs.Feature.{outcome_of as outcome_of_value};
-ghost use Rattle.wc_model.specs.History.{bound_kind as bound_kind_of};
+ghost use Rattle.wc_model.specs.Workspace.Feature.{outcome_of as outcome_of_value};
+ghost use Rattle.wc_model.specs.Workspace.History.{bound_kind as bound_kind_of};
 
 use crate::chain::chain;
 use std::alloc::{AllocError, Global};
@@ -44,7 +44,7 @@ fn value_of(outcome: Outcome) -> Result<Value, AllocError>
 }
 
 impl Processor for ChainWork {
-    ghost use Rattle.wc_model.specs.History.{bound_kind as bound_kind_of};
+    ghost use Rattle.wc_model.specs.Workspace.History.{bound_kind as bound_kind_of};
 
     ghost can_run = { λ _. Unit {0} };
 

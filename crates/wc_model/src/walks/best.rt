@@ -1,5 +1,5 @@
 ghost use Rattle.std.specs.Prelude.{◌<◌, IfOk};
-ghost use Rattle.wc_model.specs.Walks.{AreSteps, IsGreatestFrom};
+ghost use Rattle.wc_model.specs.Flow.Walks.{AreSteps, IsGreatestFrom};
 
 use crate::SystemStep;
 use crate::walks::{Order, greatest_costs, order_nodes};

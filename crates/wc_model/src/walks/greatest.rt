@@ -1,6 +1,6 @@
 ghost use Rattle.std.specs.Prelude.{◌≡◌, ℕ, ◌+◌, ◌<◌, ◌≤◌, ◌^◌, List, Option, Some, IfSome, length, replicate, Contains, IfOk, All, slice_get};
-ghost use Rattle.wc_model.specs.Greatest.{IsGreatestOf, cost_through, option_max};
-ghost use Rattle.wc_model.specs.Walks.{AreSteps, IsOrdered, IsBest};
+ghost use Rattle.wc_model.specs.Inner.Greatest.{IsGreatestOf, cost_through, option_max};
+ghost use Rattle.wc_model.specs.Flow.Walks.{AreSteps, IsOrdered, IsBest};
 
 use crate::SystemStep;
 use crate::walks::{starts, steps_from};

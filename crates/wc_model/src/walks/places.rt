@@ -1,5 +1,5 @@
 ghost use Rattle.std.specs.Prelude.{◌≡◌, ◌+◌, ℕ, ◌<◌, ◌≤◌, length, slice_get, IfOk, Some};
-ghost use Rattle.wc_model.specs.Walks.{AreSteps, AreStarts, AreStepsOf};
+ghost use Rattle.wc_model.specs.Flow.Walks.{AreSteps, AreStarts, AreStepsOf};
 ghost use Rattle.wc_model.specs.declared.flow_system.SystemStep.{SystemStep};
 
 use crate::SystemStep;

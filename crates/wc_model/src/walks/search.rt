@@ -1,6 +1,6 @@
 ghost use Rattle.std.specs.Prelude.{◌≡◌, ◌+◌, ◌-◌, ◌<◌, ◌^◌, ◌++◌, ◌∷◌, [], IfOk, Some, slice_get, slice_index, slice_set, length, replicate, IsSome, MatchOption};
-ghost use Rattle.wc_model.specs.Searches.{IsSearch, IsNextStep, IsRound};
-ghost use Rattle.wc_model.specs.Walks.{AreSteps, IsCycle, IsSearched};
+ghost use Rattle.wc_model.specs.Inner.Searches.{IsSearch, IsNextStep, IsRound};
+ghost use Rattle.wc_model.specs.Flow.Walks.{AreSteps, IsCycle, IsSearched};
 
 use crate::SystemStep;
 use crate::walks::starts;

@@ -1,5 +1,5 @@
 ghost use Rattle.std.specs.Prelude.{◌≡◌, ◌<◌, IfSome, IsFalse, IsTrue};
-ghost use Rattle.wc_model.specs.Walks.{AreSteps};
+ghost use Rattle.wc_model.specs.Flow.Walks.{AreSteps};
 
 use crate::SystemStep;
 use crate::walks::{Greatest, greatest_from};

@@ -1,7 +1,7 @@
 ghost use Rattle.std.specs.Prelude.{◌≡◌, ◌<◌, IfOk, length};
 ghost use Rattle.wcet.specs.Exploring.{IsExpanded, IsExploration};
 ghost use Rattle.wcet.specs.Numbers.{IsNew, IsNumbered, IsAdded, HasWay};
-ghost use Rattle.wc_model.specs.Steps.{insn_at};
+ghost use Rattle.wc_model.specs.Program.Steps.{insn_at};
 
 use crate::chain::costs::of_step;
 use crate::chain::ways::{Way, ways_out};

@@ -1,6 +1,6 @@
 ghost use Rattle.std.specs.Prelude.{◌≡◌, ℕ, List, map, Ok, IfOk};
-ghost use Rattle.wc_model.specs.Chain.{IsChain};
-ghost use Rattle.wc_model.specs.Words.{find_of};
+ghost use Rattle.wc_model.specs.Workspace.Chain.{IsChain};
+ghost use Rattle.wc_model.specs.Program.Words.{find_of};
 ghost use Rattle.wc_model.specs.declared.flow_facts.Fact.{Fact};
 
 use crate::chain::code::explore;

@@ -1,5 +1,5 @@
 use Rattle.std.proofs.Common.{◌≡◌, ◌∙◌, sym, arith}
-use Rattle.wc_model.specs.Instruction.{field, bit}
+use Rattle.wc_model.specs.Program.Instruction.{field, bit}
 use Rattle.wc_a32.proofs.Rows.{only_extension, only_register, only_immediate, only_transfer, only_media, only_multiple, only_branch, only_call, none}
 use Rattle.wc_a32.proofs.decode.insn.Goals as goal
 

@@ -1,5 +1,5 @@
 use Rattle.std.proofs.Common.{◌≡◌, ◌+◌, sym, subst}
-use Rattle.wc_model.specs.Instruction.{insn_of, next}
+use Rattle.wc_model.specs.Program.Instruction.{insn_of, next}
 use Rattle.wc_model.specs.declared.instructions.Class.TheVariants.{Multi}
 use Rattle.wc_asm.proofs.ReadBack.{next_multi}
 use Rattle.wc_asm.proofs.encode.next_word.Goals as goal

@@ -1,6 +1,6 @@
 use Rattle.std.proofs.Common.{◌≡◌, ◌∙◌, refl, ap, sym, subst, Some, true, false, IfSome}
 use Rattle.wc_asm.specs.Canonical.{conditional}
-use Rattle.wc_model.specs.Instruction.{insn_of}
+use Rattle.wc_model.specs.Program.Instruction.{insn_of}
 use Rattle.wc_model.specs.declared.instructions.Control.TheVariants.{Next}
 use Rattle.wc_asm.proofs.ReadBack.{whole, lowered, whole_insn, of_turning}
 use Rattle.wc_asm.proofs.encode.word_of.Goals as goal

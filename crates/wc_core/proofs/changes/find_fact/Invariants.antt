@@ -1,6 +1,6 @@
 -- the facts to come decide
 use Rattle.std.proofs.Common.{◌≡◌, drop}
-use Rattle.wc_model.specs.Edits.{fact_numbered}
+use Rattle.wc_model.specs.Workspace.Edits.{fact_numbered}
 use Rattle.wc_core.proofs.changes.find_fact.Given as goal
 
 abbrev pub invariant-loop-fact : goal.invariant-loop-fact

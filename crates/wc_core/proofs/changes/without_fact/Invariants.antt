@@ -1,7 +1,7 @@
 -- what is kept, and what is still to be kept
 use Rattle.std.proofs.Common.{◌≡◌, ◌++◌, ℕ, Bool, true, false, List, drop}
 use Rattle.wc_model.specs.declared.flow_facts.Fact.{Fact}
-use Rattle.wc_model.specs.Edits.{without_number}
+use Rattle.wc_model.specs.Workspace.Edits.{without_number}
 use Rattle.wc_core.proofs.changes.without_fact.Given as goal
 
 abbrev pub to_keep : Bool → ℕ → List (ℕ × Fact) → List (ℕ × Fact)

@@ -1,6 +1,6 @@
 use Rattle.std.proofs.Common.{◌≡◌, Bool, false, true, not, ◌||◌, Option, None, refl, sym, ap, ◌∙◌}
 use Rattle.wc_model.specs.declared.machine.Cache.{Cache}
-use Rattle.wc_model.specs.Edits.{bare, same_cache, same_cycles}
+use Rattle.wc_model.specs.Workspace.Edits.{bare, same_cache, same_cycles}
 use Rattle.wc_core.proofs.opening.is_changed.Goals as goal
 
 or_end : (b : Bool) → (b || false) ≡ b

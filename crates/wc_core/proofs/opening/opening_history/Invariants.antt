@@ -2,7 +2,7 @@
 use Rattle.std.proofs.Common.{◌≡◌, ◌++◌, ◌∷◌, ◌+◌, drop}
 use Rattle.wc_model.specs.declared.entries.Entry.TheVariants.{Edit as EditEntry}
 use Rattle.wc_model.specs.declared.inputs.Edit.TheVariants.{Hardware as Timing}
-use Rattle.wc_model.specs.History.{fact_entries}
+use Rattle.wc_model.specs.Workspace.History.{fact_entries}
 use Rattle.wc_core.proofs.opening.opening_history.Given as goal
 
 abbrev pub invariant-loop-fact : goal.invariant-loop-fact

@@ -1,5 +1,5 @@
 use Rattle.std.proofs.Common.{ap, ◌∙◌}
-use Rattle.wc_model.specs.History.{Opening}
+use Rattle.wc_model.specs.Workspace.History.{Opening}
 use Rattle.wc_core.proofs.Openings.{alone_free}
 use Rattle.wc_core.proofs.tests.ask_twice.Goals as goal
 

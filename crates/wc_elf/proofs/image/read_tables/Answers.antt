@@ -1,5 +1,5 @@
 use Rattle.std.proofs.Common.{◌∙◌}
-use Rattle.wc_model.specs.Image.{name_checks, range_checks}
+use Rattle.wc_model.specs.Program.Image.{name_checks, range_checks}
 use Rattle.wc_elf.proofs.Steps.{pass, stops_first, stops_later}
 use Rattle.wc_elf.proofs.image.read_tables.Goals as goal
 

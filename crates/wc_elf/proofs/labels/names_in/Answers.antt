@@ -1,6 +1,6 @@
 use Rattle.std.proofs.Common.{flat_map}
-use Rattle.wc_model.specs.Elf.{symbols}
-use Rattle.wc_model.specs.Image.{label_checks, label_name}
+use Rattle.wc_model.specs.Program.Elf.{symbols}
+use Rattle.wc_model.specs.Program.Image.{label_checks, label_name}
 use Rattle.wc_elf.proofs.Steps.{turn_pass, turn_items, turn_stops}
 use Rattle.wc_elf.proofs.labels.names_in.Goals as goal
 

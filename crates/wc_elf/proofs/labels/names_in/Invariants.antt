@@ -1,6 +1,6 @@
 use Rattle.std.proofs.Common.{◌≡◌, ◌+◌, ◌≤◌, ◌++◌, flat_map, length, All}
-use Rattle.wc_model.specs.Elf.{symbols}
-use Rattle.wc_model.specs.Image.{first_fault, label_checks, label_name}
+use Rattle.wc_model.specs.Program.Elf.{symbols}
+use Rattle.wc_model.specs.Program.Image.{first_fault, label_checks, label_name}
 use Rattle.wc_elf.proofs.Steps.{rest}
 use Rattle.wc_elf.proofs.labels.names_in.Given as goal
 

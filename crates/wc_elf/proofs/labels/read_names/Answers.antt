@@ -1,6 +1,6 @@
 use Rattle.std.proofs.Common.{◌≡◌, Some, None, arith}
-use Rattle.wc_model.specs.Elf.{symbol_section}
-use Rattle.wc_model.specs.Image.{first_fault, section_table_checks, symbol_checks, section_names}
+use Rattle.wc_model.specs.Program.Elf.{symbol_section}
+use Rattle.wc_model.specs.Program.Image.{first_fault, section_table_checks, symbol_checks, section_names}
 use Rattle.wc_elf.proofs.Steps.{pass, reads_later}
 use Rattle.wc_elf.proofs.labels.read_names.Goals as goal
 

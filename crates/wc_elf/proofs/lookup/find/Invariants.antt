@@ -1,6 +1,6 @@
 use Rattle.std.proofs.Common.{◌≡◌, drop}
 use Rattle.std.specs.List.{find}
-use Rattle.wc_model.specs.Words.{is_called, address_of}
+use Rattle.wc_model.specs.Program.Words.{is_called, address_of}
 use Rattle.wc_elf.proofs.lookup.find.Given as goal
 
 -- the symbols to come decide

@@ -1,6 +1,6 @@
 use Rattle.std.proofs.Common.{flat_map}
-use Rattle.wc_model.specs.Elf.{entries}
-use Rattle.wc_model.specs.Image.{segment_checks, segment_range}
+use Rattle.wc_model.specs.Program.Elf.{entries}
+use Rattle.wc_model.specs.Program.Image.{segment_checks, segment_range}
 use Rattle.wc_elf.proofs.Steps.{turn_pass, turn_items, turn_stops}
 use Rattle.wc_elf.proofs.ranges.ranges_in.Goals as goal
 

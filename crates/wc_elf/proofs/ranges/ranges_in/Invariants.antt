@@ -1,6 +1,6 @@
 use Rattle.std.proofs.Common.{◌≡◌, ◌++◌, flat_map, length, All}
-use Rattle.wc_model.specs.Elf.{entries}
-use Rattle.wc_model.specs.Image.{first_fault, segment_checks, segment_range}
+use Rattle.wc_model.specs.Program.Elf.{entries}
+use Rattle.wc_model.specs.Program.Image.{first_fault, segment_checks, segment_range}
 use Rattle.wc_elf.specs.Readings.{IsInside}
 use Rattle.wc_elf.proofs.Steps.{rest}
 use Rattle.wc_elf.proofs.ranges.ranges_in.Given as goal

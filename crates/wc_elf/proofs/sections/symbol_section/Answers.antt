@@ -1,6 +1,6 @@
 use Rattle.wc_elf.proofs.Steps.{find_next}
 use Rattle.std.proofs.Common.{◌==◌, arith}
-use Rattle.wc_model.specs.Elf.{sh_type}
+use Rattle.wc_model.specs.Program.Elf.{sh_type}
 use Rattle.wc_elf.proofs.sections.symbol_section.Goals as goal
 
 pub loop-index-preserved : goal.loop-index-preserved

@@ -1,6 +1,6 @@
 use Rattle.std.proofs.Common.{◌≡◌, ◌==◌}
 use Rattle.std.specs.List.{find}
-use Rattle.wc_model.specs.Elf.{entries, sh_type}
+use Rattle.wc_model.specs.Program.Elf.{entries, sh_type}
 use Rattle.wc_elf.proofs.Steps.{rest}
 use Rattle.wc_elf.proofs.sections.symbol_section.Given as goal
 

@@ -1,7 +1,7 @@
 use Rattle.std.proofs.Common.{◌≡◌, true, refl, sym}
 use Rattle.std.specs.Prelude.{codes}
 use Rattle.serde_json.specs.View.{view}
-use Rattle.wc_model.specs.Ranges.{is_line_size, is_set_count, is_way_count}
+use Rattle.wc_model.specs.Cache.Ranges.{is_line_size, is_set_count, is_way_count}
 use Rattle.wc_hw.specs.HardwareFile.{cache_number}
 use Rattle.wc_hw.proofs.TextLemmas.{checked_passes}
 use Rattle.wc_hw.proofs.reading.read_cache.Goals as goal

@@ -1,7 +1,7 @@
 use Rattle.std.proofs.Common.{◌≡◌, ◌≤◌, ◌+◌, [], ◌∷◌, ◌++◌, length, vec_capacity, arith, refl, ap, ◌∙◌}
 use Rattle.wc_model.specs.declared.entries.Entry.TheVariants.{Edit as EditEntry}
-use Rattle.wc_model.specs.Closures.{touches_any}
-use Rattle.wc_model.specs.Edits.{setting_of, edited}
+use Rattle.wc_model.specs.Workspace.Closures.{touches_any}
+use Rattle.wc_model.specs.Workspace.Edits.{setting_of, edited}
 use Rattle.wc_core.specs.Holds.{all_parts}
 use Rattle.wc_core.proofs.Goings.{goes_accept, stable_alone}
 use Rattle.wc_core.proofs.shared.Core.accept.Goals as goal

@@ -3,8 +3,8 @@ use Rattle.wc_model.specs.declared.elf_image.Image.{Image}
 use Rattle.wc_model.specs.declared.entries.Entry.TheVariants.{Edit as EditEntry}
 use Rattle.wc_model.specs.declared.flow_facts.Fact.{Fact}
 use Rattle.wc_model.specs.declared.inputs.Edit.TheVariants.{Hardware as Timing}
-use Rattle.wc_model.specs.Edits.{Setting, setting_of}
-use Rattle.wc_model.specs.History.{fact_entries}
+use Rattle.wc_model.specs.Workspace.Edits.{Setting, setting_of}
+use Rattle.wc_model.specs.Workspace.History.{fact_entries}
 use Rattle.wc_model.proofs.Replays.{length-opening_entries}
 use Rattle.wc_core.specs.Holds.{Basis, opening_of, numbered_from, stamp_from}
 use Rattle.wc_core.proofs.Openings.{opens_all, all_ready, one_work}

@@ -1,6 +1,6 @@
 use Rattle.std.proofs.Common.{◌≡◌, ◌≤◌, ◌+◌, [], ◌∷◌, ◌++◌, length, vec_capacity, arith, sym, ap, ◌∙◌}
 use Rattle.wc_model.specs.declared.entries.Entry.TheVariants.{Pin}
-use Rattle.wc_model.specs.Edits.{setting_of}
+use Rattle.wc_model.specs.Workspace.Edits.{setting_of}
 use Rattle.wc_core.proofs.Goings.{goes_pin}
 use Rattle.wc_core.proofs.shared.Core.pin.Goals as goal
 

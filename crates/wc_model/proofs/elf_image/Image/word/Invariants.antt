@@ -1,6 +1,6 @@
 use Rattle.std.proofs.Common.{◌≡◌, drop}
 use Rattle.std.specs.List.{find}
-use Rattle.wc_model.specs.Words.{has_word, word_in}
+use Rattle.wc_model.specs.Program.Words.{has_word, word_in}
 use Rattle.wc_model.proofs.elf_image.Image.word.Given as goal
 
 -- the ranges to come decide

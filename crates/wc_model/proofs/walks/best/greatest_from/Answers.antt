@@ -1,7 +1,7 @@
 use Rattle.std.proofs.Common.{ℕ, ◌≡◌, ◌<◌, List, Option, Some, All, length, refl, sym, ◌∙◌, subst, arith}
 use Rattle.std.specs.List.{Contains, slice_get}
 use Rattle.std.proofs.lemmas.Option.{same_Some, slice_get_read}
-use Rattle.wc_model.specs.Walks.{here, IsOrder, IsCostFrom}
+use Rattle.wc_model.specs.Flow.Walks.{here, IsOrder, IsCostFrom}
 use Rattle.wc_model.proofs.Orders.{cost_from, order_inside}
 use Rattle.wc_model.proofs.walks.best.greatest_from.Goals as goal
 

@@ -4,7 +4,7 @@ use Rattle.std.proofs.lemmas.List.{length-set}
 use Rattle.std.proofs.lemmas.List.Elements.{All-contains, All-set, All-weaker, All-contains_itself}
 use Rattle.std.proofs.lemmas.Option.{slice_get-get_or, slice_get_within, IfSome_then}
 use Rattle.wc_model.specs.declared.flow_system.SystemStep.{SystemStep}
-use Rattle.wc_model.specs.Greatest.{cost_through, IsGreatestOf}
+use Rattle.wc_model.specs.Inner.Greatest.{cost_through, IsGreatestOf}
 use Rattle.wc_model.proofs.Places.{get_from_contains}
 use Rattle.wc_model.proofs.Greatest.{best_more}
 use Rattle.wc_model.proofs.walks.greatest.greatest_costs.Goals as goal

@@ -1,6 +1,6 @@
 use Rattle.std.proofs.Common.{ℕ, ◌≡◌, ◌*◌, ◌<◌, ◌≤◌, ◌^◌, length, get_or, IfSome, None, Some, All}
 use Rattle.std.specs.List.{slice_get}
-use Rattle.wc_model.specs.Walks.{IsBest}
+use Rattle.wc_model.specs.Flow.Walks.{IsBest}
 use Rattle.wc_model.proofs.walks.greatest.greatest_costs.Given as goal
 
 abbrev pub invariant-loop-node : goal.invariant-loop-node

@@ -1,7 +1,7 @@
 use Rattle.std.proofs.Common.{◌+◌, ◌^◌, None, take, get_or, sym}
 use Rattle.std.proofs.lemmas.List.{take_more}
 use Rattle.wc_model.specs.declared.flow_system.SystemStep.{SystemStep}
-use Rattle.wc_model.specs.Greatest.{cost_through}
+use Rattle.wc_model.specs.Inner.Greatest.{cost_through}
 use Rattle.wc_model.proofs.Greatest.{greatest_push, max_below}
 use Rattle.wc_model.proofs.walks.greatest.greatest_through.Goals as goal
 

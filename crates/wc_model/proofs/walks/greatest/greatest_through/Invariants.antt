@@ -1,5 +1,5 @@
 use Rattle.std.proofs.Common.{ℕ, ◌+◌, ◌<◌, ◌≤◌, ◌^◌, take, IfSome, All}
-use Rattle.wc_model.specs.Greatest.{IsGreatestOf, cost_through}
+use Rattle.wc_model.specs.Inner.Greatest.{IsGreatestOf, cost_through}
 use Rattle.wc_model.proofs.walks.greatest.greatest_through.Given as goal
 
 abbrev pub invariant-loop-step : goal.invariant-loop-step

@@ -4,7 +4,7 @@ use Rattle.std.proofs.lemmas.Bool.{cases_lt}
 use Rattle.std.proofs.lemmas.List.Elements.{All-contains}
 use Rattle.std.proofs.lemmas.Option.{slice_get_within}
 use Rattle.wc_model.specs.declared.flow_system.SystemStep.{SystemStep}
-use Rattle.wc_model.specs.Walks.{AreStarts}
+use Rattle.wc_model.specs.Flow.Walks.{AreStarts}
 use Rattle.wc_model.proofs.Places.{contains_from_get}
 use Rattle.wc_model.proofs.Starting.{from_there, starts_more}
 use Rattle.wc_model.proofs.walks.places.starts.Goals as goal

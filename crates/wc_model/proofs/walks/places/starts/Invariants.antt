@@ -1,5 +1,5 @@
 use Rattle.std.proofs.Common.{◌≡◌, ℕ, ◌<◌, ◌≤◌, length, slice_get, Some}
-use Rattle.wc_model.specs.Walks.{AreStarts}
+use Rattle.wc_model.specs.Flow.Walks.{AreStarts}
 use Rattle.wc_model.specs.declared.flow_system.SystemStep.{SystemStep}
 use Rattle.wc_model.proofs.walks.places.starts.Given as goal
 

@@ -1,6 +1,6 @@
 use Rattle.std.proofs.Common.{ℕ, ◌≡◌, ◌-◌, List, Some, length, ap, ◌∙◌, subst}
 use Rattle.std.specs.List.{slice_get}
-use Rattle.wc_model.specs.Walks.{IsOrder}
+use Rattle.wc_model.specs.Flow.Walks.{IsOrder}
 use Rattle.wc_model.proofs.Searching.{search_ends}
 use Rattle.wc_model.proofs.walks.search.order_nodes.Goals as goal
 

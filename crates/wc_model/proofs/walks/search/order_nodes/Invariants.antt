@@ -1,5 +1,5 @@
 use Rattle.std.proofs.Common.{◌≡◌, length}
-use Rattle.wc_model.specs.Searches.{IsSearch, rounds_left}
+use Rattle.wc_model.specs.Inner.Searches.{IsSearch, rounds_left}
 use Rattle.wc_model.proofs.walks.search.order_nodes.Given as goal
 
 abbrev pub invariant-loop-node : goal.invariant-loop-node

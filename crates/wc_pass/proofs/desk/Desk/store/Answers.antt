@@ -1,5 +1,5 @@
 use Rattle.std.proofs.Common.{◌∙◌, ap, sym, arith}
-use Rattle.wc_model.specs.Entries.{session_of}
+use Rattle.wc_model.specs.Workspace.Entries.{session_of}
 use Rattle.wc_pass.proofs.Steps.{adds}
 use Rattle.wc_pass.proofs.desk.Desk.store.Goals as goal
 

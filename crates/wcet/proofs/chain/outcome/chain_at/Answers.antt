@@ -1,8 +1,8 @@
 use Rattle.std.proofs.Common.{◌≡◌, List, [], Some, length, subst, arith}
 use Rattle.wc_model.specs.declared.flow_facts.Fact.{Fact}
 use Rattle.wc_model.specs.declared.flow_system.SystemStep.{SystemStep}
-use Rattle.wc_model.specs.Chain.{unbuilt, bounded}
-use Rattle.wc_model.specs.Walks.{IsCycle, IsCostFrom}
+use Rattle.wc_model.specs.Workspace.Chain.{unbuilt, bounded}
+use Rattle.wc_model.specs.Flow.Walks.{IsCycle, IsCostFrom}
 use Rattle.wcet.specs.Exploring.{IsExploration}
 use Rattle.wcet.proofs.Answer.{are_steps, not_empty, cycle_unbuilt, none_unbuilt, all_lead, greatest}
 use Rattle.wcet.proofs.chain.outcome.chain_at.Goals as goal

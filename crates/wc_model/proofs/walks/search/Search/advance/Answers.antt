@@ -4,7 +4,7 @@ use Rattle.std.proofs.lemmas.Option.{none-some, same_Some, slice_get_within, sli
 use Rattle.std.proofs.lemmas.List.Elements.{All-contains}
 use Rattle.wc_model.specs.declared.flow_system.SystemStep.{SystemStep}
 use Rattle.wc_model.specs.declared.walks.search.Mark.TheVariants.{New, Open, Done}
-use Rattle.wc_model.specs.Searches.{weight}
+use Rattle.wc_model.specs.Inner.Searches.{weight}
 use Rattle.wc_model.proofs.Places.{contains_from_get}
 use Rattle.wc_model.proofs.Searching.{last_known, last_open, cycle_found, enters, enter_falls, leaves_with, leave_falls, follows_with, follow_falls}
 use Rattle.wc_model.proofs.walks.search.Search.advance.Goals as goal

@@ -10,9 +10,9 @@ use Rattle.wc_model.specs.declared.instructions.Control.TheVariants.{Next, Jump,
 use Rattle.wc_model.specs.declared.instructions.Insn.{Insn}
 use Rattle.wc_model.specs.declared.flow_facts.Fact.{Fact}
 use Rattle.wc_model.specs.declared.flow_facts.Fact.TheVariants.{Multibranch, Multicall, Noreturn}
-use Rattle.wc_model.specs.Words.{word_at}
-use Rattle.wc_model.specs.Instruction.{insn_of}
-use Rattle.wc_model.specs.Positions.{Call, Position}
+use Rattle.wc_model.specs.Program.Words.{word_at}
+use Rattle.wc_model.specs.Program.Instruction.{insn_of}
+use Rattle.wc_model.specs.Program.Positions.{Call, Position}
 
 -- What the facts state of an address.
 

@@ -11,11 +11,11 @@ use Rattle.wc_model.specs.declared.instructions.Insn.{Insn}
 use Rattle.wc_model.specs.declared.machine.Hardware.{Hardware}
 use Rattle.wc_model.specs.declared.values.Outcome.{Outcome}
 use Rattle.wc_model.specs.declared.values.Outcome.TheVariants.{Bound, Fault as Refused}
-use Rattle.wc_model.specs.Edits.{Setting}
-use Rattle.wc_model.specs.Words.{find_of}
-use Rattle.wc_model.specs.Positions.{Position, start_of}
-use Rattle.wc_model.specs.Steps.{Step, fault_at, insn_at}
-use Rattle.wc_model.specs.Paths.{Reaches, Leads, IsPath, path_cycles}
+use Rattle.wc_model.specs.Workspace.Edits.{Setting}
+use Rattle.wc_model.specs.Program.Words.{find_of}
+use Rattle.wc_model.specs.Program.Positions.{Position, start_of}
+use Rattle.wc_model.specs.Program.Steps.{Step, fault_at, insn_at}
+use Rattle.wc_model.specs.Program.Paths.{Reaches, Leads, IsPath, path_cycles}
 
 -- calls and indirect jumps aren't analysed yet
 abbrev pub IsUnbuiltControl : Control → Type 0

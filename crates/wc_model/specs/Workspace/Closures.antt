@@ -4,7 +4,7 @@ use Rattle.wc_model.specs.declared.elf_image.Image.{Image}
 use Rattle.wc_model.specs.declared.inputs.Edit.{Edit}
 use Rattle.wc_model.specs.declared.kinds.Describe.{Describe}
 use Rattle.wc_model.specs.declared.kinds.Part.{Part}
-use Rattle.wc_model.specs.Edits.{Setting, bare, edited, touches}
+use Rattle.wc_model.specs.Workspace.Edits.{Setting, bare, edited, touches}
 
 abbrev pub has_kind : ℕ → List ℕ → Bool
 has_kind kind [] = false

@@ -81,7 +81,7 @@ abbrev pub belongs : Part → Fact → Bool
 belongs Steer (Multibranch at to) = true
 belongs Steer (Multicall at to) = true
 belongs Steer (Noreturn at) = true
-belongs Loops (Loop at bound) = true
+belongs Loops (Loop at bound within) = true
 belongs Limits (Limit left right) = true
 belongs _ _ = false
 

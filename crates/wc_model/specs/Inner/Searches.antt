@@ -4,7 +4,7 @@ use Rattle.wc_model.specs.declared.flow_system.SystemStep.{SystemStep}
 use Rattle.wc_model.specs.declared.walks.search.Mark.{Mark}
 use Rattle.wc_model.specs.declared.walks.search.Mark.TheVariants.{New, Open, Done}
 use Rattle.wc_model.specs.declared.walks.search.Search.{Search}
-use Rattle.wc_model.specs.Walks.{Reaches, IsOrdered}
+use Rattle.wc_model.specs.Flow.Walks.{Reaches, IsOrdered}
 
 -- the open nodes are those on the path from the start, and each step that was followed leads to a node that is done
 pub record IsSearchOf (steps : List SystemStep) (start : ℕ) (marks : List Mark) (next path done : List ℕ) : Type 0 where

@@ -6,8 +6,8 @@ use Rattle.wc_model.specs.declared.instructions.Class.{Class}
 use Rattle.wc_model.specs.declared.instructions.Class.TheVariants.{Alu, Mul, Div, Load, Store, Multi, Branch, System}
 use Rattle.wc_model.specs.declared.instructions.Insn.{Insn}
 use Rattle.wc_model.specs.declared.machine.Cycles.{Cycles}
-use Rattle.wc_model.specs.Positions.{Position}
-use Rattle.wc_model.specs.Steps.{Step, steps_of, insn_at}
+use Rattle.wc_model.specs.Program.Positions.{Position}
+use Rattle.wc_model.specs.Program.Steps.{Step, steps_of, insn_at}
 
 module _ (image : Image) (facts : List Fact) (entry : ℕ) where
   -- the positions that steps join to `p`

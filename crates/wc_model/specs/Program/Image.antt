@@ -4,7 +4,7 @@ use Rattle.std.specs.Prelude.{ℕ, ◌≡◌, ◌+◌, ◌*◌, ◌%◌, ◌^◌
 use Rattle.std.specs.Option.{unwrap_or}
 use Rattle.wc_base.specs.declared.faults.Fault.{Fault}
 use Rattle.wc_base.specs.declared.faults.Fault.TheVariants.{Truncated, NotArm, BadTable}
-use Rattle.wc_model.specs.Elf.{byte, word, is_inside, e_type, e_machine, e_phoff, e_shoff, e_phentsize, e_phnum, e_shentsize, e_shnum, p_offset, p_vaddr, p_filesz, sh_type, sh_offset, sh_size, sh_link, st_name, st_value, st_type, st_shndx, is_executable, program_headers, symbol_section, linked, contents, symbols}
+use Rattle.wc_model.specs.Program.Elf.{byte, word, is_inside, e_type, e_machine, e_phoff, e_shoff, e_phentsize, e_phnum, e_shentsize, e_shnum, p_offset, p_vaddr, p_filesz, sh_type, sh_offset, sh_size, sh_link, st_name, st_value, st_type, st_shndx, is_executable, program_headers, symbol_section, linked, contents, symbols}
 use Rattle.wc_model.specs.declared.elf_image.Range.{Range}
 use Rattle.wc_model.specs.declared.elf_image.Name.{Name}
 use Rattle.wc_model.specs.declared.elf_image.Image.{Image}

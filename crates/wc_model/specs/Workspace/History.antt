@@ -13,8 +13,8 @@ use Rattle.wc_model.specs.declared.kinds.Describe.{Describe}
 use Rattle.wc_model.specs.declared.machine.Hardware.{Hardware}
 use Rattle.wc_model.specs.declared.values.Outcome.{Outcome}
 use Rattle.wc_model.specs.declared.values.Outcome.TheVariants.{Memory as NoMemory}
-use Rattle.wc_model.specs.Edits.{Setting, fact_numbered, after_edits, edit_of}
-use Rattle.wc_model.specs.Closures.{has_kind, closure, touches_any, stamp_of, order_of}
+use Rattle.wc_model.specs.Workspace.Edits.{Setting, fact_numbered, after_edits, edit_of}
+use Rattle.wc_model.specs.Workspace.Closures.{has_kind, closure, touches_any, stamp_of, order_of}
 
 -- What a workspace is opened with. `works` has the number of works of each kind.
 pub record Opening : Type 0 where

@@ -4,9 +4,9 @@ use Rattle.wc_model.specs.declared.values.Outcome.{Outcome}
 use Rattle.wc_model.specs.declared.values.Outcome.TheVariants as outcome
 use Rattle.wc_model.specs.declared.values.Value.{Value}
 use Rattle.wc_model.specs.declared.values.Value.TheVariants as value
-use Rattle.wc_model.specs.Chain.{chain}
-use Rattle.wc_model.specs.Edits.{Setting}
-use Rattle.wc_model.specs.History.{bound_kind}
+use Rattle.wc_model.specs.Workspace.Chain.{chain}
+use Rattle.wc_model.specs.Workspace.Edits.{Setting}
+use Rattle.wc_model.specs.Workspace.History.{bound_kind}
 
 -- the outcome that a value tells: a bound and the chain's faults alone do
 abbrev pub outcome_of : Value → Option Outcome
