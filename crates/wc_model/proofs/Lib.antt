@@ -1,4 +1,3 @@
-pub mod Agreeing
 pub mod Current
 pub mod Greatest
 pub mod Leaving
