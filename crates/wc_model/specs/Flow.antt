@@ -1,1 +1,6 @@
+pub mod Columns
+pub mod Exact
+pub mod RowMachine
+pub mod RowResults
+pub mod Tableaus
 pub mod Walks
