@@ -1,4 +1,3 @@
-pub mod Agreeing
 pub mod Current
 pub mod Greatest
 pub mod Leaving
@@ -8,4 +7,5 @@ pub mod Replays
 pub mod Searching
 pub mod Sharing
 pub mod Starting
+pub mod SteeringLemmas
 pub mod Untouched

@@ -15,7 +15,7 @@ use Rattle.wc_model.specs.Workspace.Edits.{Setting}
 use Rattle.wc_model.specs.Program.Words.{find_of}
 use Rattle.wc_model.specs.Program.Positions.{Position, start_of}
 use Rattle.wc_model.specs.Program.Steps.{Step, fault_at, insn_at}
-use Rattle.wc_model.specs.Program.Paths.{Reaches, Leads, IsPath, path_cycles}
+use Rattle.wcet.specs.Acyclic.Paths.{Reaches, Leads, IsPath, path_cycles}
 
 -- calls and indirect jumps aren't analysed yet
 abbrev pub IsUnbuiltControl : Control → Type 0
