@@ -7,4 +7,5 @@ pub mod Replays
 pub mod Searching
 pub mod Sharing
 pub mod Starting
+pub mod SteeringLemmas
 pub mod Untouched
