@@ -1,4 +1,5 @@
 pub mod Columns
+pub mod Ends
 pub mod Exact
 pub mod RowMachine
 pub mod RowResults
