@@ -14,6 +14,8 @@ use Rattle.wc_model.specs.declared.graphs.Context.{Context}
 use Rattle.wc_model.specs.declared.graphs.Graph.{Graph}
 use Rattle.wc_model.specs.declared.graphs.Node.{Node}
 use Rattle.wc_model.specs.declared.graphs.Step.{Step as NumberedStep}
+use Rattle.wc_model.specs.Flow.Ends.{step_ends}
+use Rattle.wc_model.specs.Flow.Walks.{Joins}
 use Rattle.wc_model.specs.Program.Positions.{Call, Position, start_of, position_cmp, stack_cmp}
 use Rattle.wc_model.specs.Program.Reaching.{Reaches, Ends, IsLive}
 use Rattle.wc_model.specs.Program.Steps.{Move, Step, LeadsBy, fault_at, insn_at, steps_of}
@@ -110,7 +112,7 @@ pub record IsGraphOf (image : Image) (facts : List Fact) (entry : ℕ) (graph : 
 
 -- a numbered step leads from node to node, or to the exit
 abbrev pub LeadsIn : List NumberedStep → ℕ → Option ℕ → Type 0
-LeadsIn steps p t = (s : NumberedStep) × Contains steps s × (s.source ≡ p) × (s.target ≡ t)
+LeadsIn steps = Joins step_ends steps
 
 pub record IsGraph (graph : Graph) : Type 0 where
   pub few : length graph.nodes ≤ 100000
