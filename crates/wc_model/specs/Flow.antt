@@ -1,1 +1,8 @@
+pub mod Ceiling
+pub mod Cells
+pub mod Certificates
+pub mod Counts
+pub mod Sums
+pub mod SystemWalks
+pub mod Systems
 pub mod Walks
