@@ -2,7 +2,7 @@ pub mod Ceiling
 pub mod Cells
 pub mod Certificates
 pub mod Counts
-pub mod Sums
+pub mod Places
 pub mod SystemWalks
 pub mod Systems
 pub mod Walks

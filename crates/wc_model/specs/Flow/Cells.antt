@@ -5,7 +5,7 @@ use Rattle.std.specs.List.{filter, range_with_len}
 use Rattle.std.specs.Option.{option_and_then, unwrap_or}
 use Rattle.wc_model.specs.declared.flow_system.System.{System}
 use Rattle.wc_model.specs.declared.flow_system.SystemStep.{SystemStep}
-use Rattle.wc_model.specs.Flow.Sums.{places_of}
+use Rattle.wc_model.specs.Flow.Places.{places_of}
 use Rattle.wc_model.specs.Flow.Systems.{leads_to}
 
 -- the places of a node's steps out and in

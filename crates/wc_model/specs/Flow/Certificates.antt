@@ -1,5 +1,6 @@
 -- Prices that bound every feasible count, by the duality of linear programs, and what it is that a certificate holds.
 use Rattle.std.specs.Prelude.{ℕ, ◌≡◌, ℤ, pos, ◌+ℤ◌, ◌-ℤ◌, ◌*ℤ◌, ◌≤ℤ◌, ◌<ℤ◌, ◌<◌, ◌==◌, if◌then◌else◌, List, [], ◌∷◌, length, slice_get, Option, None, Some}
+use Rattle.wc_base.specs.Sums.{sum_placed, chosen}
 use Rattle.wc_model.specs.declared.flow_system.Ray.{Ray}
 use Rattle.wc_model.specs.declared.flow_system.Solution.{Solution}
 use Rattle.wc_model.specs.declared.flow_system.System.{System}
@@ -7,7 +8,7 @@ use Rattle.wc_model.specs.declared.flow_system.SystemLimit.{SystemLimit}
 use Rattle.wc_model.specs.declared.flow_system.SystemLoop.{SystemLoop}
 use Rattle.wc_model.specs.declared.flow_system.SystemStep.{SystemStep}
 use Rattle.wc_model.specs.Flow.Counts.{IsFeasible, value_of, cycles}
-use Rattle.wc_model.specs.Flow.Sums.{sum_placed, chosen, number_at, is_listed}
+use Rattle.wc_model.specs.Flow.Places.{number_at, is_listed}
 
 -- a potential per node, a price per loop and a price per limit
 pub record Prices : Type 0 where

@@ -1,10 +1,10 @@
 -- Counts of a system's steps over a common denominator, and which are feasible. After Li and Malik 1995.
 use Rattle.std.specs.Prelude.{ℕ, ◌≡◌, ◌<◌, ℤ, pos, ◌+ℤ◌, ◌-ℤ◌, ◌*ℤ◌, ◌≤ℤ◌, ◌<ℤ◌, ◌==◌, List, length, All}
+use Rattle.wc_base.specs.Sums.{sum_placed, sum_in, chosen}
 use Rattle.wc_model.specs.declared.flow_system.System.{System}
 use Rattle.wc_model.specs.declared.flow_system.SystemLimit.{SystemLimit}
 use Rattle.wc_model.specs.declared.flow_system.SystemLoop.{SystemLoop}
 use Rattle.wc_model.specs.declared.flow_system.SystemStep.{SystemStep}
-use Rattle.wc_model.specs.Flow.Sums.{sum_placed, sum_in, chosen}
 use Rattle.wc_model.specs.Flow.Systems.{leads_to}
 
 -- `x i` is the count of the step at place `i`: what leaves a node, and what comes into it

@@ -1,10 +1,11 @@
 -- Walks of a system, as the places of their steps: two steps of a system may be equal, so only places have counts.
 use Rattle.std.specs.Prelude.{ℕ, ◌≡◌, ◌+◌, ◌*◌, ◌≤◌, ℤ, pos, ◌+ℤ◌, ◌*ℤ◌, ◌≤ℤ◌, Bool, false, ◌==◌, if◌then◌else◌, List, [], ◌∷◌, slice_get, Option, None, Some, All}
+use Rattle.wc_base.specs.Sums.{sum_in, chosen}
 use Rattle.wc_model.specs.declared.flow_system.System.{System}
 use Rattle.wc_model.specs.declared.flow_system.SystemLimit.{SystemLimit}
 use Rattle.wc_model.specs.declared.flow_system.SystemLoop.{SystemLoop}
 use Rattle.wc_model.specs.declared.flow_system.SystemStep.{SystemStep}
-use Rattle.wc_model.specs.Flow.Sums.{sum_in, chosen, is_listed}
+use Rattle.wc_model.specs.Flow.Places.{is_listed}
 
 -- from `at` to `end`, where nothing is the exit: each step leaves where the one before led
 abbrev pub IsPlaceWalk : List SystemStep → Option ℕ → List ℕ → Option ℕ → Type 0

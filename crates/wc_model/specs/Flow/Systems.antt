@@ -17,7 +17,7 @@ use Rattle.wc_model.specs.declared.graphs.Graph.{Graph}
 use Rattle.wc_model.specs.declared.graphs.Head.{Head}
 use Rattle.wc_model.specs.declared.graphs.Nest.{Nest}
 use Rattle.wc_model.specs.declared.graphs.Step.{Step}
-use Rattle.wc_model.specs.Flow.Sums.{is_listed, IsOnce, places_of}
+use Rattle.wc_model.specs.Flow.Places.{is_listed, IsOnce, places_of}
 
 -- What holds of every system: places are in range, and each stands at most once in a list.
 abbrev pub ArePlaces : ℕ → List ℕ → Type 0
