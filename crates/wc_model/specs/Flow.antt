@@ -1,7 +1,14 @@
+pub mod Ceiling
+pub mod Cells
+pub mod Certificates
 pub mod Columns
+pub mod Counts
 pub mod Ends
 pub mod Exact
+pub mod Places
 pub mod RowMachine
 pub mod RowResults
+pub mod SystemWalks
+pub mod Systems
 pub mod Tableaus
 pub mod Walks
