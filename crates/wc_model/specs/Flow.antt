@@ -1,7 +1,6 @@
 pub mod Ceiling
 pub mod Cells
 pub mod Certificates
-pub mod Columns
 pub mod Counts
 pub mod Ends
 pub mod Exact

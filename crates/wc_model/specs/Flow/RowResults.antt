@@ -1,16 +1,18 @@
 -- What the row machine answers: the solution or the ray that its end shows, or which limit was met.
 use Rattle.std.specs.Prelude.{ℕ, zero, suc, ◌+◌, ◌*◌, ◌/◌, ◌==◌, ◌≡◌, Bool, true, false, nat_lt, if◌then◌else◌, ℤ, pos, negsuc, ◌+ℤ◌, ◌-ℤ◌, ◌*ℤ◌, List, [], ◌∷◌, ◌++◌, map, length, take, drop, get_or, int_div, unsigned_abs, Option, None, Some, option_map, option_and_then}
-use Rattle.std.specs.List.{range_with_len, list_any}
+use Rattle.std.specs.List.{range_with_len}
 use Rattle.wc_model.specs.declared.flow_system.System.{System}
 use Rattle.wc_model.specs.declared.flow_system.SystemStep.{SystemStep}
 use Rattle.wc_model.specs.declared.flow_system.SystemLoop.{SystemLoop}
 use Rattle.wc_model.specs.declared.flow_system.SystemLimit.{SystemLimit}
 use Rattle.wc_model.specs.declared.flow_system.Solution.{Solution}
 use Rattle.wc_model.specs.declared.flow_system.Ray.{Ray}
-use Rattle.wc_model.specs.Flow.Columns.{row_nodes, AreColumns}
+use Rattle.wc_model.specs.Flow.Cells.{row_nodes, columns_of}
+use Rattle.wc_model.specs.Flow.Certificates.{factor_of}
 use Rattle.wc_model.specs.Flow.Exact.{exact, negate_exact, each_of, gcd}
+use Rattle.wc_model.specs.Flow.Places.{is_listed}
 use Rattle.wc_model.specs.Flow.RowMachine.{Tableau, Shape, entry, cell, is_real, machine, MachineEnd, best, infeasible, wide, many, endless}
-use Rattle.wc_model.specs.Flow.Tableaus.{Start, starting, no_step, is_listed, factor_at}
+use Rattle.wc_model.specs.Flow.Tableaus.{Start, starting, no_step}
 
 pub data RowOutcome : Type 0 where
   solved : Solution → RowOutcome
@@ -19,7 +21,7 @@ pub data RowOutcome : Type 0 where
   pivot_limit : RowOutcome
   unbounded : RowOutcome
 
--- Prices: the row of a node gives its `u`, the row of a loop its `v`, the row of a limit its `w`. The sign of a price
+-- RowPrices: the row of a node gives its `u`, the row of a loop its `v`, the row of a limit its `w`. The sign of a price
 -- is turned where its row was negated when it was made.
 abbrev pub signed : Bool → ℤ → Option ℤ
 signed true price = negate_exact price
@@ -31,7 +33,7 @@ prices_from goal place base [] = Some []
 prices_from goal place base (n ∷ ns) =
     option_and_then (λ price. option_map (λ ps. price ∷ ps) (prices_from goal (suc place) base ns)) (option_and_then (signed n) (exact (entry goal place -ℤ base)))
 
-pub record Prices : Type 0 where
+pub record RowPrices : Type 0 where
   pub nodes : List (ℕ × ℤ)
   pub loops : List ℤ
   pub limits : List ℤ
@@ -41,7 +43,7 @@ numbered [] prices = []
 numbered (q ∷ qs) [] = []
 numbered (q ∷ qs) (p ∷ ps) = (q, p) ∷ numbered qs ps
 
-abbrev pub split_prices : System → List ℤ → Prices
+abbrev pub split_prices : System → List ℤ → RowPrices
 split_prices system all =
     record {
       nodes = numbered (row_nodes system) all;
@@ -78,25 +80,25 @@ entry_terms i (l ∷ ls) (v ∷ vs) = if is_listed i l.entry then exact (pos l.b
 abbrev pub limit_terms : ℕ → List SystemLimit → List ℤ → List (Option ℤ)
 limit_terms q [] ws = []
 limit_terms q (l ∷ ls) [] = []
-limit_terms q (l ∷ ls) (w ∷ ws) = option_and_then negate_exact (exact (factor_at q l.factors *ℤ w)) ∷ limit_terms q ls ws
+limit_terms q (l ∷ ls) (w ∷ ws) = option_and_then negate_exact (exact (factor_of q l.factors *ℤ w)) ∷ limit_terms q ls ws
 
-abbrev pub step_potential : System → ℤ → Prices → ℤ → ℕ → SystemStep → Option ℤ
+abbrev pub step_potential : System → ℤ → RowPrices → ℤ → ℕ → SystemStep → Option ℤ
 step_potential system scale prices ahead i s =
     sum_terms ahead (exact (pos s.cost *ℤ scale) ∷ back_terms i system.loops prices.loops ++ entry_terms i system.loops prices.loops ++ limit_terms s.source system.limits prices.limits)
 
 -- the potentials at the sources of the steps of a chain, the first one's first
-abbrev pub chain_potentials : System → ℤ → Prices → List ℕ → Option (List (ℕ × ℤ))
+abbrev pub chain_potentials : System → ℤ → RowPrices → List ℕ → Option (List (ℕ × ℤ))
 chain_potentials system scale prices [] = Some []
 chain_potentials system scale prices (i ∷ later) =
     option_and_then (λ us. option_map (λ u. ((get_or system.steps i no_step).source, u) ∷ us) (step_potential system scale prices (price_ahead (us ++ prices.nodes) (get_or system.steps i no_step).target) i (get_or system.steps i no_step))) (chain_potentials system scale prices later)
 
-abbrev pub inner_potentials : System → ℤ → Prices → List (List ℕ) → Option (List (ℕ × ℤ))
+abbrev pub inner_potentials : System → ℤ → RowPrices → List (List ℕ) → Option (List (ℕ × ℤ))
 inner_potentials system scale prices [] = Some []
 inner_potentials system scale prices (column ∷ columns) =
     option_and_then (λ us. option_map (λ more. us ++ more) (inner_potentials system scale prices columns)) (chain_potentials system scale prices (drop 1 column))
 
 -- `u`, `v` and `w` as lists, by node, loop and limit
-abbrev pub potentials : System → Prices → List (ℕ × ℤ) → List ℤ
+abbrev pub potentials : System → RowPrices → List (ℕ × ℤ) → List ℤ
 potentials system prices inner = map (price_of (prices.nodes ++ inner)) (range_with_len 0 system.nodes)
 
 -- The counts. A basis column's count is its row's right side over its entry there, in lowest terms; every other count
@@ -144,10 +146,10 @@ value_terms (s ∷ ss) [] = []
 value_terms (s ∷ ss) (x ∷ xs) = exact (pos s.cost *ℤ x) ∷ value_terms ss xs
 
 -- The solution at the end of the second phase.
-abbrev pub solution : ℤ → ℤ → List ℤ → ℤ → List ℤ → Prices → Solution
+abbrev pub solution : ℤ → ℤ → List ℤ → ℤ → List ℤ → RowPrices → Solution
 solution num den x scale u prices = record { num = num; den = den; x = x; scale = scale; u = u; v = prices.loops; w = prices.limits }
 
-abbrev pub solved_with : System → List (List ℕ) → Shape → Tableau → ℤ → Prices → List (ℕ × ℤ) → Option Solution
+abbrev pub solved_with : System → List (List ℕ) → Shape → Tableau → ℤ → RowPrices → List (ℕ × ℤ) → Option Solution
 solved_with system columns shape t scale prices inner =
     option_and_then (λ den. option_and_then (λ x. option_map (λ num. solution num den x scale (potentials system prices inner) prices) (sum_terms (pos 0) (value_terms system.steps x))) (counts_of system shape t columns den)) (common_from shape t 0 (pos 1) t.basis)
 
@@ -179,6 +181,9 @@ abbrev pub run_from : System → List (List ℕ) → ℕ → Option Start → Ro
 run_from system columns most None = number_limit
 run_from system columns most (Some start) = read_end system columns start (machine start.shape most start.first)
 
+abbrev pub row_outcome : ℕ → System → RowOutcome
+row_outcome most system = run_from system (columns_of system) most (starting system (columns_of system))
+
 -- The outcome of the row machine on a system, with at most 5,000 pivots.
 abbrev pub IsRowOutcome : System → RowOutcome → Type 0
-IsRowOutcome system outcome = (columns : List (List ℕ)) × AreColumns system columns × (run_from system columns 5000 (starting system columns) ≡ outcome)
+IsRowOutcome system outcome = (most : ℕ) × (most ≡ 5000) × (row_outcome most system ≡ outcome)

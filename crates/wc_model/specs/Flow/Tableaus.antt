@@ -1,15 +1,18 @@
 -- Where the row machine starts, and what is read of its end. All sums are added in the order of their lists.
 use Rattle.std.specs.Prelude.{ℕ, zero, suc, ◌+◌, ◌*◌, ◌/◌, ◌==◌, ◌≡◌, Bool, true, false, not, ◌&&◌, ◌||◌, nat_lt, if◌then◌else◌, ℤ, pos, negsuc, ◌+ℤ◌, ◌-ℤ◌, ◌*ℤ◌, List, [], ◌∷◌, ◌++◌, map, length, take, reverse, replicate, get_or, int_div, unsigned_abs, Option, None, Some, option_map, option_and_then}
-use Rattle.std.specs.List.{list_any, range_with_len}
+use Rattle.std.specs.List.{range_with_len}
 use Rattle.wc_model.specs.declared.flow_system.System.{System}
 use Rattle.wc_model.specs.declared.flow_system.SystemStep.{SystemStep}
 use Rattle.wc_model.specs.declared.flow_system.SystemLoop.{SystemLoop}
 use Rattle.wc_model.specs.declared.flow_system.SystemLimit.{SystemLimit}
 use Rattle.wc_model.specs.declared.flow_system.Solution.{Solution}
 use Rattle.wc_model.specs.declared.flow_system.Ray.{Ray}
-use Rattle.wc_model.specs.Flow.Columns.{leads_to, row_nodes, is_passed}
+use Rattle.wc_model.specs.Flow.Cells.{row_nodes}
+use Rattle.wc_model.specs.Flow.Certificates.{factor_of}
 use Rattle.wc_model.specs.Flow.Exact.{exact, add_exact, negate_exact, each_of, sum_exact, add_rows, gcd}
-use Rattle.wc_model.specs.Flow.RowMachine.{Tableau, Shape, tableau, entry, is_negative, is_real}
+use Rattle.wc_model.specs.Flow.Places.{is_listed}
+use Rattle.wc_model.specs.Flow.RowMachine.{Tableau, Shape, tableau, is_negative}
+use Rattle.wc_model.specs.Flow.Systems.{leads_to}
 
 -- A row as the system states it: its entry at each step, its right side, and whether it is an inequality.
 pub record Line : Type 0 where
@@ -20,9 +23,6 @@ pub record Line : Type 0 where
 abbrev pub one_if : Bool → ℤ
 one_if true = pos 1
 one_if false = pos 0
-
-abbrev pub is_listed : ℕ → List ℕ → Bool
-is_listed place places = list_any (λ p. p == place) places
 
 -- out less in is 1 at the start, and 0 elsewhere
 abbrev pub node_line : System → ℕ → Line
@@ -37,12 +37,8 @@ loop_line system l =
       slack = true;
     }
 
-abbrev pub factor_at : ℕ → List (ℕ × ℤ) → ℤ
-factor_at q [] = pos 0
-factor_at q (f ∷ fs) = if f.0 == q then f.1 else factor_at q fs
-
 abbrev pub limit_line : SystemLimit → Line
-limit_line l = record { at_step = λ i s. factor_at s.source l.factors; side = l.constant; slack = true }
+limit_line l = record { at_step = λ i s. factor_of s.source l.factors; side = l.constant; slack = true }
 
 abbrev pub lines_of : System → List Line
 lines_of system = map (node_line system) (row_nodes system) ++ map (loop_line system) system.loops ++ map limit_line system.limits
