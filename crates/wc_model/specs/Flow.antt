@@ -1,2 +1,4 @@
+pub mod Bounds
 pub mod Ends
+pub mod Nest
 pub mod Walks
