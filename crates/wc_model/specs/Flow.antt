@@ -1,7 +1,10 @@
+pub mod Bounds
 pub mod Ceiling
 pub mod Cells
 pub mod Certificates
 pub mod Counts
+pub mod Ends
+pub mod Nest
 pub mod Places
 pub mod SystemWalks
 pub mod Systems
