@@ -14,10 +14,10 @@ abbrev pub IsOnce : List ℕ → Type 0
 IsOnce [] = Unit {0}
 IsOnce (n ∷ ns) = (is_listed n ns ≡ false) × IsOnce ns
 
--- the places of the elements that pass a test, where the first element's place is `first`
-abbrev pub places_from : {X : Type 0} → ℕ → (X → Bool) → List X → List ℕ
+-- the places of the elements that pass a test, in order, where the first element's place is `first`
+abbrev pub places_from : {X : Type 0} → ℕ → (ℕ → X → Bool) → List X → List ℕ
 places_from first test [] = []
-places_from first test (x ∷ xs) = if test x then first ∷ places_from (first + 1) test xs else places_from (first + 1) test xs
+places_from first test (x ∷ xs) = if test first x then first ∷ places_from (first + 1) test xs else places_from (first + 1) test xs
 
-abbrev pub places_of : {X : Type 0} → (X → Bool) → List X → List ℕ
+abbrev pub places_of : {X : Type 0} → (ℕ → X → Bool) → List X → List ℕ
 places_of test xs = places_from 0 test xs
