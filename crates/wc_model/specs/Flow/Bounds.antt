@@ -53,30 +53,6 @@ abbrev pub AreCalls : List Context → ℕ → List Call → Type 0
 AreCalls contexts k [] = (c : Context) × (slice_get contexts k ≡ Some c) × (c.parent ≡ None)
 AreCalls contexts k (call ∷ calls) = (c : Context) × (j : ℕ) × (slice_get contexts k ≡ Some c) × (c.parent ≡ Some j) × (c.returns ≡ call.returns) × (c.callee ≡ call.callee) × AreCalls contexts j calls
 
--- the same, computed: a context's parents stand before it
-abbrev pub call_of : Context → Call
-call_of c = record { returns = c.returns; callee = c.callee }
-
-abbrev pub opened : Option Context → (ℕ → List Call) → List Call
-opened None outer = []
-opened (Some c) outer = opened_by (call_of c) c.parent
-  where
-    opened_by : Call → Option ℕ → List Call
-    opened_by call None = []
-    opened_by call (Some j) = call ∷ outer j
-
-abbrev pub calls_at : List Context → ℕ → ℕ → List Call
-calls_at contexts zero k = []
-calls_at contexts (suc most) k = opened (slice_get contexts k) (calls_at contexts most)
-
-abbrev pub position_of : List Context → Option Node → Position
-position_of contexts None = record { calls = []; pc = 0 }
-position_of contexts (Some node) = record { calls = calls_at contexts (length contexts) node.context; pc = node.pc }
-
--- what fits the position that a node stands for
-abbrev pub fits_node : Graph → ℕ → List ℕ → ℕ → Bool
-fits_node graph at within p = fits at within (position_of graph.contexts (slice_get graph.nodes p))
-
 module _ (graph : Graph) where
   -- the head's node stands for the position
   abbrev pub StandsFor : Head → Position → Type 0
