@@ -1,5 +1,5 @@
 -- Numbers and rows of numbers that stay within -(2^127 - 1) to 2^127 - 1: nothing where one would leave.
-use Rattle.std.specs.Prelude.{ℕ, zero, suc, ◌+◌, ◌-◌, ◌*◌, ◌/◌, ◌%◌, ◌^◌, ◌==◌, Bool, true, false, nat_lt, nat_le, if◌then◌else◌, ℤ, pos, negsuc, ◌+ℤ◌, ◌-ℤ◌, ◌*ℤ◌, List, [], ◌∷◌, map, Option, None, Some, option_map, option_and_then, unsigned_abs}
+use Rattle.std.specs.Prelude.{ℕ, zero, suc, ◌+◌, ◌%◌, ◌^◌, Bool, nat_lt, nat_le, if◌then◌else◌, ℤ, pos, negsuc, ◌+ℤ◌, ◌-ℤ◌, ◌*ℤ◌, List, [], ◌∷◌, map, Option, None, Some, option_map, option_and_then, unsigned_abs}
 use Rattle.std.specs.Prelude.{int_div}
 
 abbrev pub fits : ℤ → Bool

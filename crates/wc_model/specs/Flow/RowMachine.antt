@@ -1,6 +1,6 @@
 -- The row machine: the simplex method over whole numbers. It is stated step by step, since where a number leaves
 -- 128 bits is part of its outcome. The least column enters, and a tie goes to the least basis column (Bland 1977).
-use Rattle.std.specs.Prelude.{ℕ, zero, suc, ◌+◌, ◌==◌, Bool, true, false, not, ◌&&◌, ◌||◌, nat_lt, if◌then◌else◌, ℤ, pos, negsuc, ◌*ℤ◌, ◌-ℤ◌, List, [], ◌∷◌, take, set, get_or, Option, None, Some, option_map, option_and_then}
+use Rattle.std.specs.Prelude.{ℕ, zero, suc, ◌+◌, ◌==◌, Bool, true, false, not, ◌&&◌, ◌||◌, nat_lt, if◌then◌else◌, ℤ, pos, negsuc, ◌*ℤ◌, List, [], ◌∷◌, take, set, get_or, Option, None, Some, option_map, option_and_then}
 use Rattle.std.specs.Prelude.{int_lt, int_le}
 use Rattle.wc_model.specs.Flow.Exact.{exact, negate_exact, each_of, mix_row, lowest}
 

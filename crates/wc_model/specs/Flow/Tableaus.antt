@@ -1,15 +1,13 @@
 -- Where the row machine starts, and what is read of its end. All sums are added in the order of their lists.
-use Rattle.std.specs.Prelude.{ℕ, zero, suc, ◌+◌, ◌*◌, ◌/◌, ◌==◌, ◌≡◌, Bool, true, false, not, ◌&&◌, ◌||◌, nat_lt, if◌then◌else◌, ℤ, pos, negsuc, ◌+ℤ◌, ◌-ℤ◌, ◌*ℤ◌, List, [], ◌∷◌, ◌++◌, map, length, take, reverse, replicate, get_or, int_div, unsigned_abs, Option, None, Some, option_map, option_and_then}
+use Rattle.std.specs.Prelude.{ℕ, suc, ◌+◌, ◌==◌, Bool, true, false, if◌then◌else◌, ℤ, pos, ◌-ℤ◌, List, [], ◌∷◌, ◌++◌, map, length, take, replicate, get_or, Option, None, Some, option_map, option_and_then}
 use Rattle.std.specs.List.{range_with_len}
 use Rattle.wc_model.specs.declared.flow_system.System.{System}
 use Rattle.wc_model.specs.declared.flow_system.SystemStep.{SystemStep}
 use Rattle.wc_model.specs.declared.flow_system.SystemLoop.{SystemLoop}
 use Rattle.wc_model.specs.declared.flow_system.SystemLimit.{SystemLimit}
-use Rattle.wc_model.specs.declared.flow_system.Solution.{Solution}
-use Rattle.wc_model.specs.declared.flow_system.Ray.{Ray}
 use Rattle.wc_model.specs.Flow.Cells.{row_nodes}
 use Rattle.wc_model.specs.Flow.Certificates.{factor_of}
-use Rattle.wc_model.specs.Flow.Exact.{exact, add_exact, negate_exact, each_of, sum_exact, add_rows, gcd}
+use Rattle.wc_model.specs.Flow.Exact.{negate_exact, each_of, sum_exact, add_rows}
 use Rattle.wc_model.specs.Flow.Places.{is_listed}
 use Rattle.wc_model.specs.Flow.RowMachine.{Tableau, Shape, tableau, is_negative}
 use Rattle.wc_model.specs.Flow.Systems.{leads_to}

@@ -3,7 +3,6 @@ use Rattle.std.specs.Prelude.{ℕ, ◌≡◌, ◌≤◌, List, Result, Ok, Err}
 use Rattle.wc_base.specs.declared.faults.Fault.{Fault}
 use Rattle.wc_model.specs.declared.graphs.Costs.{Costs}
 use Rattle.wc_model.specs.declared.graphs.Graph.{Graph}
-use Rattle.wc_model.specs.declared.machine.Hardware.{Hardware}
 use Rattle.wc_model.specs.declared.values.Outcome.{Outcome}
 use Rattle.wc_model.specs.declared.values.Outcome.TheVariants.{Bound, Fault as Refused, Memory}
 use Rattle.wc_model.specs.Cache.Costs.{AreCosts}

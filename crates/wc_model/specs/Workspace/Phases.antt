@@ -1,5 +1,5 @@
 -- What each phase of the analysis gives: a result for what the phases before gave, or the fault that it refuses with.
-use Rattle.std.specs.Prelude.{ℕ, ◌≡◌, ◌<◌, ◌≤◌, ◌^◌, ℤ, pos, List, [], ◌∷◌, map, Result, Ok, Err, Option, None, Some, IsSome}
+use Rattle.std.specs.Prelude.{ℕ, ◌≡◌, ◌<◌, ◌≤◌, ◌^◌, pos, List, [], map, Result, Ok, Err}
 use Rattle.wc_base.specs.declared.faults.Fault.{Fault}
 use Rattle.wc_base.specs.declared.faults.Fault.TheVariants.{NumberLimit, SystemLimit, PivotLimit, NoPath}
 use Rattle.wc_model.specs.declared.flow_facts.Fact.{Fact}
@@ -9,12 +9,12 @@ use Rattle.wc_model.specs.declared.graphs.Bounds.{Bounds}
 use Rattle.wc_model.specs.declared.graphs.Costs.{Costs}
 use Rattle.wc_model.specs.declared.graphs.Graph.{Graph}
 use Rattle.wc_model.specs.declared.graphs.Nest.{Nest}
-use Rattle.wc_model.specs.Flow.Bounds.{AreBounds, IsBoundsFault, fits_node}
+use Rattle.wc_model.specs.Flow.Bounds.{AreBounds, IsBoundsFault}
 use Rattle.wc_model.specs.Flow.Ceiling.{ceiling_of}
 use Rattle.wc_model.specs.Flow.Cells.{cells_of}
 use Rattle.wc_model.specs.Flow.Certificates.{SolutionHolds, IsBound}
 use Rattle.wc_model.specs.Flow.Nest.{IsNest, IsNestFault}
-use Rattle.wc_model.specs.Flow.RowResults.{RowOutcome, solved, no_path, number_limit, pivot_limit, unbounded, IsRowOutcome}
+use Rattle.wc_model.specs.Flow.RowResults.{RowOutcome, solved, no_path, number_limit, pivot_limit, IsRowOutcome}
 use Rattle.wc_model.specs.Flow.Systems.{IsSystemOf}
 use Rattle.wc_model.specs.Program.Graphs.{IsGraphOf, IsGraphFault}
 use Rattle.wc_model.specs.Program.Words.{find_of}
@@ -54,13 +54,13 @@ abbrev pub IsTooBig : System → Type 0
 IsTooBig system = (system.limits ≡ [] → ⊥) × (250000 < cells_of system)
 
 pub record IsSystemResult (inputs : Setting) (graph : Graph) (nest : Nest) (bounds : Bounds) (costs : Costs) (system : System) : Type 0 where
-  pub system_is : IsSystemOf (fits_node graph) graph nest bounds costs inputs.facts system
-  pub below : ceiling_of nest bounds.of system.nodes system.steps < 2 ^ 100
+  pub system_is : IsSystemOf graph nest bounds costs inputs.facts system
+  pub below : ceiling_of nest system < 2 ^ 100
   pub fits_in : IsTooBig system → ⊥
 
 pub data SystemOf (inputs : Setting) (graph : Graph) (nest : Nest) (bounds : Bounds) (costs : Costs) : Result System Fault → Type 0 where
-  costly : (system : System) → IsSystemOf (fits_node graph) graph nest bounds costs inputs.facts system → 2 ^ 100 ≤ ceiling_of nest bounds.of system.nodes system.steps → SystemOf inputs graph nest bounds costs (Err NumberLimit)
-  big : (system : System) → IsSystemOf (fits_node graph) graph nest bounds costs inputs.facts system → ceiling_of nest bounds.of system.nodes system.steps < 2 ^ 100 → IsTooBig system → SystemOf inputs graph nest bounds costs (Err SystemLimit)
+  costly : (system : System) → IsSystemOf graph nest bounds costs inputs.facts system → 2 ^ 100 ≤ ceiling_of nest system → SystemOf inputs graph nest bounds costs (Err NumberLimit)
+  big : (system : System) → IsSystemOf graph nest bounds costs inputs.facts system → ceiling_of nest system < 2 ^ 100 → IsTooBig system → SystemOf inputs graph nest bounds costs (Err SystemLimit)
   fine : (system : System) → IsSystemResult inputs graph nest bounds costs system → SystemOf inputs graph nest bounds costs (Ok system)
 
 -- The solution. Without stated limits there is always one, over the denominator and the scale 1. With limits the row

@@ -1,5 +1,5 @@
 -- What a list of descriptions means: which kind requires which, and when the list is refused. After OTAWA 2010.
-use Rattle.std.specs.Prelude.{ℕ, ◌≡◌, ◌<◌, ◌≤◌, ◌⊎◌, ◌↔◌, List, take, Option, Some, All, Contains, slice_get}
+use Rattle.std.specs.Prelude.{ℕ, ◌≡◌, ◌<◌, ◌≤◌, ◌⊎◌, ◌↔◌, List, take, Some, All, Contains, slice_get}
 use Rattle.wc_model.specs.declared.kinds.Describe.{Describe}
 use Rattle.wc_model.specs.declared.kinds.Part.{Part}
 use Rattle.wc_model.specs.Workspace.Closures.{requires_of, reads_of}
