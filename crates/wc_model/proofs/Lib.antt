@@ -9,3 +9,4 @@ pub mod Sharing
 pub mod Starting
 pub mod SteeringLemmas
 pub mod Untouched
+pub mod WorkedRows
