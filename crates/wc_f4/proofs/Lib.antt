@@ -6,6 +6,7 @@ pub mod GrammarLemmas
 pub mod ParsingLemmas
 pub mod PrintedFacts
 pub mod PrintedTokens
+pub mod PrintingLemmas
 pub mod RunLemmas
 pub mod Sayings
 pub mod StatedLemmas
