@@ -1,4 +1,5 @@
 pub mod RowLemmas
+pub mod OutLemmas
 pub mod WritingLemmas
 pub mod FileLemmas
 pub mod LineLemmas

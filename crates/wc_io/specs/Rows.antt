@@ -44,6 +44,14 @@ path_at i [] = []
 path_at zero (r ∷ rs) = r.path
 path_at (suc i) (r ∷ rs) = path_at i rs
 
+-- the source or sink of that place came back with so many faults
+abbrev pub MarksRow : ℕ → ℕ → List Row → List Row → Type 0
+MarksRow place faults old new = new ≡ marked (place - 1) faults old
+
+-- the path of the row of that place
+abbrev pub path_of : ℕ → List Row → List ℕ
+path_of place rows = path_at (place - 1) rows
+
 -- a place is the number of a row, from 1
 abbrev pub IsRowOf : ℕ → Bool → List Row → Type 0
 IsRowOf place sink rows = (0 < place) × (sink_at (place - 1) rows ≡ Some sink)
