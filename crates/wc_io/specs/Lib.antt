@@ -1,6 +1,5 @@
 pub mod Ahead
 pub mod Causes
-pub mod Feeds
 pub mod Leaving
 pub mod Lines
 pub mod Memory

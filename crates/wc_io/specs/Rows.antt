@@ -16,6 +16,10 @@ row_failed path sink failed = record { path = path; sink = sink; failed = failed
 abbrev pub row_of : OpenedRow → Row
 row_of r = record { path = string_bytes r.path; sink = r.sink; failed = r.failed }
 
+-- a row more, which failed
+abbrev pub AddsFailed : Row → List Row → List Row → Type 0
+AddsFailed row old new = new ≡ old ++ record row { failed = true } ∷ []
+
 -- a call that opens a path adds its row, failed exactly where it answers `Failed`, and none for want of memory
 abbrev pub AddsRow : {T : Type 0} → List ℕ → Bool → List Row → List Row → Result T HouseError → Type 0
 AddsRow path sink old new (Ok _) = new ≡ old ++ row_failed path sink false ∷ []

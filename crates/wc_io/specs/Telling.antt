@@ -1,5 +1,5 @@
 -- Which files a house tells, and which places are out.
-use Rattle.std.specs.Prelude.{◌≡◌, ◌≢◌, ℕ, Bool, List, [], ◌∷◌, ◌++◌, Option, Some, IfSome, IsSome, IsTrue, ◌⊎◌}
+use Rattle.std.specs.Prelude.{◌≡◌, ◌≢◌, ℕ, Bool, List, [], ◌∷◌, ◌++◌, Option, Some, IfSome, IsSome, IsTrue, ◌⊎◌, Result, Ok, Err}
 
 -- the house tells all its files, or it tells this one
 abbrev pub TellsFile : Bool → Option (List ℕ) → Type 0
@@ -35,3 +35,8 @@ StaysOut old new = (places : List ℕ) → old places → new places
 
 abbrev pub ComesBack : ℕ → (List ℕ → Type 0) → (List ℕ → Type 0) → Type 0
 ComesBack place old new = (before after : List ℕ) → old (before ++ place ∷ after) → new (before ++ after)
+
+-- a call brings a source or a sink out, or leaves what is out
+abbrev pub Brings : {T E : Type 0} → (T → ℕ) → Result T E → (List ℕ → Type 0) → (List ℕ → Type 0) → Type 0
+Brings place (Ok t) old new = GoesOut (place t) old new
+Brings place (Err _) old new = StaysOut old new

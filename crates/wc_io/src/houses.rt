@@ -1,6 +1,6 @@
 ghost use Rattle.std.specs.Prelude.{◌≡◌, ℕ, Bool, List, [], Option, length, IfOk, OnOk, OnErr, IfSome, true, false};
 ghost use Rattle.wc_io.specs.Rows.{Row, AddsRow, IsRowOf, MarksRow, path_of};
-ghost use Rattle.wc_io.specs.Telling.{IsThere, Gives, IsEmptied, IsFilled, KeepsOthers, GoesOut, StaysOut, ComesBack};
+ghost use Rattle.wc_io.specs.Telling.{IsThere, Gives, IsEmptied, IsFilled, KeepsOthers, Brings, ComesBack};
 
 use crate::{Sink, Source};
 use std::alloc::AllocError;
@@ -43,8 +43,7 @@ pub trait House {
         ensures bytes { IfOk result (λ s. Gives (file self.old path.now) (Self.Source.left s)) }
         ensures files { (p : List ℕ) → file self.new p ≡ file self.old p }
         ensures tells { tells self.new ≡ tells self.old }
-        ensures out { IfOk result (λ s. GoesOut (Self.Source.place s) (are_out self.old) (are_out self.new)) }
-        ensures still { OnErr result (StaysOut (are_out self.old) (are_out self.new)) };
+        ensures out { Brings Self.Source.place result (are_out self.old) (are_out self.new) };
 
     /// Opens a path for writing: its file is empty from then on, and made where there was none.
     fn sink(&mut self, path: &str) -> Result<Self::Sink, HouseError>
@@ -53,17 +52,18 @@ pub trait House {
         ensures fresh { IfOk result (λ s. Self.Sink.faults s ≡ 0) }
         ensures empty { IfOk result (λ s. IfSome (Self.Sink.held s) (λ bytes. bytes ≡ [])) }
         ensures held { IfOk result (λ s. IsEmptied (tells self.old) (file self.old path.now) (Self.Sink.held s)) }
-        ensures emptied { OnOk result (IsEmptied (tells self.old) (file self.old path.now) (file self.new path.now)) }
+        ensures emptied {
+            OnOk result (IsEmptied (tells self.old) (file self.old path.now) (file self.new path.now)) }
         ensures kept { OnErr result ((p : List ℕ) → file self.new p ≡ file self.old p) }
         ensures others { KeepsOthers path.now (file self.old) (file self.new) }
         ensures tells { tells self.new ≡ tells self.old }
-        ensures out { IfOk result (λ s. GoesOut (Self.Sink.place s) (are_out self.old) (are_out self.new)) }
-        ensures still { OnErr result (StaysOut (are_out self.old) (are_out self.new)) };
+        ensures out { Brings Self.Sink.place result (are_out self.old) (are_out self.new) };
 
     /// Takes a source back. Its row is failed from then on where the source counted a fault.
     fn return_source(&mut self, source: Self::Source)
         requires { IsRowOf (Self.Source.place source) false (opened self.old) }
-        ensures rows { MarksRow (Self.Source.place source) (Self.Source.faults source) (opened self.old) (opened self.new) }
+        ensures rows {
+            MarksRow (Self.Source.place source) (Self.Source.faults source) (opened self.old) (opened self.new) }
         ensures files { (p : List ℕ) → file self.new p ≡ file self.old p }
         ensures tells { tells self.new ≡ tells self.old }
         ensures out { ComesBack (Self.Source.place source) (are_out self.old) (are_out self.new) };
@@ -75,7 +75,8 @@ pub trait House {
         ensures rows { MarksRow (Self.Sink.place sink) (Self.Sink.faults sink) (opened self.old) (opened self.new) }
         ensures file { IsFilled (file self.old (path_of (Self.Sink.place sink) (opened self.old)))
             (Self.Sink.held sink) (file self.new (path_of (Self.Sink.place sink) (opened self.old))) }
-        ensures others { KeepsOthers (path_of (Self.Sink.place sink) (opened self.old)) (file self.old) (file self.new) }
+        ensures others {
+            KeepsOthers (path_of (Self.Sink.place sink) (opened self.old)) (file self.old) (file self.new) }
         ensures tells { tells self.new ≡ tells self.old }
         ensures out { ComesBack (Self.Sink.place sink) (are_out self.old) (are_out self.new) };
 }

@@ -17,12 +17,7 @@ pub struct MemoryFile {
 fn index_of(files: &[MemoryFile], path: &str) -> Option<usize>
     ensures { result ≡ position_from (λ f. is_at path.now (seen f)) 0 files.now }
 {
-    for (i, file) in files.iter().enumerate() {
-        if file.path.as_str() == path {
-            return Some(i);
-        }
-    }
-    None
+    files.iter().position(|file| file.path.as_str() == path)
 }
 
 /// The first file of that path.

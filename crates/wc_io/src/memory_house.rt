@@ -120,10 +120,12 @@ impl House for MemoryHouse {
     fn return_sink(&mut self, sink: MemorySink)
         requires { IsRowOf sink.place true (rows_of self.old) }
         ensures rows { MarksRow sink.place sink.faults (rows_of self.old) (rows_of self.new) }
-        ensures filled { files_of self.new ≡ filled (path_of sink.place (rows_of self.old)) sink.held.items (files_of self.old) }
+        ensures filled {
+            files_of self.new ≡ filled (path_of sink.place (rows_of self.old)) sink.held.items (files_of self.old) }
         ensures file { IsFilled (file_at (files_of self.old) (path_of sink.place (rows_of self.old)))
             (Some sink.held.items) (file_at (files_of self.new) (path_of sink.place (rows_of self.old))) }
-        ensures others { KeepsOthers (path_of sink.place (rows_of self.old)) (file_at (files_of self.old)) (file_at (files_of self.new)) }
+        ensures others { KeepsOthers (path_of sink.place (rows_of self.old))
+            (file_at (files_of self.old)) (file_at (files_of self.new)) }
         ensures kept { self.new ≡ record self.old { files = self.new.files; opened = self.new.opened } }
     {
         let row = &self.opened[(sink.place - 1) as usize];

@@ -1,6 +1,6 @@
-ghost use Rattle.std.specs.Prelude.{◌≡◌, ◌-◌, ◌<◌, ◌++◌, [], ◌∷◌, map, true, false, IfOk, OnOk};
+ghost use Rattle.std.specs.Prelude.{◌≡◌, ◌-◌, ◌<◌, map, false, IfOk, OnOk};
 ghost use Rattle.std.specs.Prelude.{vec_len, vec_capacity};
-ghost use Rattle.wc_io.specs.Rows.{marked, row_of, row_failed};
+ghost use Rattle.wc_io.specs.Rows.{AddsFailed, marked, row_of, row_failed};
 
 use std::alloc::AllocError;
 
@@ -34,7 +34,7 @@ pub fn prepare_row(
 /// Adds the row as one that failed.
 pub fn refuse_row(rows: &mut Vec<OpenedRow>, mut row: OpenedRow)
     requires { vec_len rows.old < vec_capacity rows.old }
-    ensures { map row_of rows.new.items ≡ map row_of rows.old.items ++ record (row_of row) { failed = true } ∷ [] }
+    ensures { AddsFailed (row_of row) (map row_of rows.old.items) (map row_of rows.new.items) }
 {
     row.failed = true;
     let _ = rows.push(row);
