@@ -1,6 +1,6 @@
 use crate::{
     Failed, FileHouse, House, HouseError, MemoryFile, MemoryHouse, MemorySink, MemorySource,
-    OpenedRow, Piece, ReadFile, ReadWhole, Sink, Source, read_file, read_whole, write_pieces,
+    OpenedRow, Piece, ReadWhole, Sink, Source, read_file, read_whole, write_pieces,
     write_whole,
 };
 use std::alloc::{AllocError, Global};
@@ -170,17 +170,17 @@ fn a_house_lists_what_it_opened(rt: HostRuntime) -> Result<(), Fail> {
     let mut house = house_of(rt.alloc(), &[3])?;
     assert_eq!(rt;
         read_file(rt.alloc(), &mut house, "none", 9).err(),
-        Some(ReadFile::Failed)
+        Some(ReadWhole::Failed)
     );
     let read = read_file(rt.alloc(), &mut house, "in", 9)?;
     assert_eq!(rt; read.as_slice(), b"seven".as_slice());
     assert_eq!(rt;
         read_file(rt.alloc(), &mut house, "in", 9).err(),
-        Some(ReadFile::Failed)
+        Some(ReadWhole::Failed)
     );
     assert_eq!(rt;
         read_file(rt.alloc(), &mut house, "in", 4).err(),
-        Some(ReadFile::Long)
+        Some(ReadWhole::Long)
     );
     let mut failed = [false; 4];
     assert_eq!(rt; house.opened.len(), 4);
@@ -220,7 +220,7 @@ fn files_are_written_and_read_back(rt: HostRuntime) -> Result<(), Fail> {
     assert_eq!(rt; read.as_slice(), b"over std\n".as_slice());
     assert_eq!(rt;
         read_file(rt.alloc(), &mut house, "none", 100).err(),
-        Some(ReadFile::Failed)
+        Some(ReadWhole::Failed)
     );
     assert_eq!(rt; house.opened.len(), 3);
     Ok(())
