@@ -35,23 +35,23 @@ passed line all lines count i coming within few other is =
     let front : take (i + 1) (set lines i coming) ≡ take i lines ++ coming ∷ [] = take_more_set lines i coming (omega arith) in
     let back : drop (i + 1) (take count (set lines i coming)) ≡ drop (suc i) (take count lines) = rw add-one (behind count i coming lines) in
     let old : without line (drop i (take count lines)) ≡ get_or lines i 0 ∷ without line (drop (suc i) (take count lines)) =
-      ap (λ ls. without line ls) (rest_is count i lines within few) ∙ others_kept (get_or lines i 0 == line) (get_or lines i 0) (drop (suc i) (take count lines)) (without line (drop (suc i) (take count lines))) test in
+    ap (λ ls. without line ls) (rest_is count i lines within few) ∙ others_kept (get_or lines i 0 == line) (get_or lines i 0) (drop (suc i) (take count lines)) (without line (drop (suc i) (take count lines))) test in
     record {
       so_far = ap₂ (λ first later. first ++ (get_or lines i 0 ∷ without line later)) front back
-        ∙ append_assoc (take i lines) (coming ∷ []) (get_or lines i 0 ∷ without line (drop (suc i) (take count lines)))
-        ∙ ap (λ later. take i lines ++ (coming ∷ later)) (sym old) ∙ is.so_far;
+          ∙ append_assoc (take i lines) (coming ∷ []) (get_or lines i 0 ∷ without line (drop (suc i) (take count lines)))
+          ∙ ap (λ later. take i lines ++ (coming ∷ later)) (sym old) ∙ is.so_far;
       hit = ap (λ ls. has_line ls line) back
-        ∙ sym (ap (λ ls. has_line ls line) (rest_is count i lines within few) ∙ ap (λ b. b || has_line (drop (suc i) (take count lines)) line) test) ∙ is.hit;
+          ∙ sym (ap (λ ls. has_line ls line) (rest_is count i lines within few) ∙ ap (λ b. b || has_line (drop (suc i) (take count lines)) line) test) ∙ is.hit;
     }
 
 -- the line itself is met
 pub met : (ways line : ℕ) (all lines : List ℕ) (count i coming : ℕ) → i < count → count ≤ length lines → count ≤ ways → get_or lines i 0 ≡ line → IsMoving line all lines count i coming → take count (set lines i coming) ≡ line_fetched ways line all
 met ways line all lines count i coming within few room same is =
     let old : without line (drop i (take count lines)) ≡ drop (suc i) (take count lines) =
-      ap (λ ls. without line ls) (rest_is count i lines within few) ∙ line_left (get_or lines i 0 == line) (get_or lines i 0) (drop (suc i) (take count lines)) (without line (drop (suc i) (take count lines))) (eq-eqb (get_or lines i 0) line same) in
+    ap (λ ls. without line ls) (rest_is count i lines within few) ∙ line_left (get_or lines i 0 == line) (get_or lines i 0) (drop (suc i) (take count lines)) (without line (drop (suc i) (take count lines))) (eq-eqb (get_or lines i 0) line same) in
     let now : take count (set lines i coming) ≡ line ∷ without line all =
-      taken_set count i coming lines ∙ set_split (take count lines) i coming (omega (arith, length-take-le count lines few))
-        ∙ ap (λ first. first ++ coming ∷ drop (suc i) (take count lines)) (take-take i count lines (omega arith)) ∙ ap (λ later. take i lines ++ (coming ∷ later)) (sym old) ∙ is.so_far in
+    taken_set count i coming lines ∙ set_split (take count lines) i coming (omega (arith, length-take-le count lines few))
+    ∙ ap (λ first. first ++ coming ∷ drop (suc i) (take count lines)) (take-take i count lines (omega arith)) ∙ ap (λ later. take i lines ++ (coming ∷ later)) (sym old) ∙ is.so_far in
     let size : length (take count (set lines i coming)) ≤ ways = omega (arith, length-take count (set lines i coming)) in
     sym (take_all ways (take count (set lines i coming)) size) ∙ ap (λ ls. take ways ls) now
 

@@ -5,10 +5,10 @@
 mod caches;
 mod paths;
 mod sets;
-
+mod sums;
 
 pub use caches::Lru;
-
+pub use sums::cycles;
 
 #[cfg(test)]
 mod tests;
