@@ -1,13 +1,12 @@
-// A library with one function.
+//! What a step of a graph costs: without its fetch, and at most, as the category of its node allows it. After Li and
+//! Malik 1995, and Ferdinand and Wilhelm 1999.
 #![tactic(auto)]
 
-ghost use Rattle.std.specs.Prelude.{◌≡◌};
-ghost use Rattle.wc_cost.specs.Echo.{echo_of};
+mod base;
+mod upper;
 
-// The `ensures` clause is the contract: what `echo` returns is `echo_of` of its argument, a definition
-// in `specs/Echo.antt`, which a caller's clause can cite too.
-pub fn echo(x: usize) -> usize
-    ensures { result ≡ echo_of x }
-{
-    x
-}
+pub use base::base_cycles;
+pub use upper::costs;
+
+#[cfg(test)]
+mod tests;

@@ -1,13 +1,14 @@
-// A library with one function.
+//! A cache that drops what was used least recently, and the cycles of a path through a graph. After Ferdinand and
+//! Wilhelm 1999.
 #![tactic(auto)]
 
-ghost use Rattle.std.specs.Prelude.{◌≡◌};
-ghost use Rattle.wc_lru.specs.Echo.{echo_of};
+mod caches;
+mod paths;
+mod sets;
+mod sums;
 
-// The `ensures` clause is the contract: what `echo` returns is `echo_of` of its argument, a definition
-// in `specs/Echo.antt`, which a caller's clause can cite too.
-pub fn echo(x: usize) -> usize
-    ensures { result ≡ echo_of x }
-{
-    x
-}
+pub use caches::Lru;
+pub use sums::cycles;
+
+#[cfg(test)]
+mod tests;
