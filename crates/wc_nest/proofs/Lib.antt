@@ -1,0 +1,4 @@
+pub mod ListLemmas
+pub mod MarkingLemmas
+pub mod RoundLemmas
+pub mod SearchLemmas
