@@ -1,3 +1,4 @@
+pub mod ClassLemmas
 pub mod ListLemmas
 pub mod MarkingLemmas
 pub mod RoundLemmas

@@ -10,9 +10,9 @@ use Rattle.wc_model.proofs.Searching.{follow_falls}
 use Rattle.wc_nest.specs.declared.marking.Mark.{Mark}
 use Rattle.wc_nest.specs.declared.marking.Mark.TheVariants.{New, Open, Done}
 use Rattle.wc_nest.specs.declared.ways.Way.{Way}
-use Rattle.wc_nest.specs.Inner.Marking.{mark_all, IsMarked}
+use Rattle.wc_nest.specs.Inner.Marking.{set_all, IsMarked}
 use Rattle.wc_nest.specs.Inner.Searches.{weight, rounds_of, IsTarget, Spreads}
-use Rattle.wc_nest.proofs.MarkingLemmas.{length-mark_all, mark_all_some, mark_all_cases, weight-mark_all}
+use Rattle.wc_nest.proofs.MarkingLemmas.{length-set_all, set_all_some, set_all_cases, weight-set_all}
 
 falls_by_one : (total : ℕ) (next : List ℕ) (p : ℕ) → p < length next → slice_index next p < total → sum_by (λ place. total - place) (set next p (slice_index next p + 1)) < sum_by (λ place. total - place) next
 falls_by_one total next p known short = let falls : 0 + sum_by (λ place. total - place) (set next p (slice_index next p + 1)) < 0 + sum_by (λ place. total - place) next = follow_falls next p total 0 known short in omega arith
@@ -35,9 +35,9 @@ leave_fewer total marks next path rest bounds place split = omega (arith, ap len
 pub merge_fewer : (total : ℕ) (marks : List Mark) (next path bounds rest : List ℕ) (b : ℕ) → bounds ≡ rest ++ b ∷ [] → rounds_of total marks next path rest < rounds_of total marks next path bounds
 merge_fewer total marks next path bounds rest b split = omega (arith, ap length split, length_push rest b)
 
-pub close_fewer : (total : ℕ) (marks : List Mark) (next path rest bounds low ps : List ℕ) (place count : ℕ) → path ≡ rest ++ place ∷ [] → bounds ≡ low ++ place ∷ [] → ((p : ℕ) → Contains ps p → (i : ℕ) × (slice_get marks p ≡ Some (Open i))) → rounds_of total (mark_all marks ps (Done count)) next rest low < rounds_of total marks next path bounds
+pub close_fewer : (total : ℕ) (marks : List Mark) (next path rest bounds low ps : List ℕ) (place count : ℕ) → path ≡ rest ++ place ∷ [] → bounds ≡ low ++ place ∷ [] → ((p : ℕ) → Contains ps p → (i : ℕ) × (slice_get marks p ≡ Some (Open i))) → rounds_of total (set_all marks ps (Done count)) next rest low < rounds_of total marks next path bounds
 close_fewer total marks next path rest bounds low ps place count split bounds_split opened =
-    let same : sum_by weight (mark_all marks ps (Done count)) ≡ sum_by weight marks = weight-mark_all marks ps (Done count) refl (λ p among. (Open (opened p among).0, (opened p among).1, refl)) in
+    let same : sum_by weight (set_all marks ps (Done count)) ≡ sum_by weight marks = weight-set_all marks ps (Done count) refl (λ p among. (Open (opened p among).0, (opened p among).1, refl)) in
     omega (arith, ap length split, length_push rest place, ap length bounds_split, length_push low place)
 
 module _ (ways : List Way) where
@@ -58,16 +58,16 @@ module _ (ways : List Way) where
             (get_set_cases marks q p (Open n) is.0 is.1);
       }
 
-  pub spreads_done : (marks : List Mark) (ps : List ℕ) (count : ℕ) → ((p : ℕ) → Contains ps p → (i : ℕ) × (slice_get marks p ≡ Some (Open i))) → Spreads ways marks (mark_all marks ps (Done count))
+  pub spreads_done : (marks : List Mark) (ps : List ℕ) (count : ℕ) → ((p : ℕ) → Contains ps p → (i : ℕ) × (slice_get marks p ≡ Some (Open i))) → Spreads ways marks (set_all marks ps (Done count))
   spreads_done marks ps count opened =
       record {
-        sized = length-mark_all marks ps (Done count);
+        sized = length-set_all marks ps (Done count);
         kept = λ p is. ⊎_elim
             (λ done. (Done count, done, λ (e : Done count ≡ New). cc))
             (λ same. (is.0, same, is.2))
-            (mark_all_some marks ps (Done count) p is.0 is.1);
+            (set_all_some marks ps (Done count) p is.0 is.1);
         led = λ p is. ⊎_elim
             (λ among. inl (Open (opened p among.0).0, (opened p among.0).1, λ (e : Open (opened p among.0).0 ≡ New). cc))
             (λ old. inl (is.0, old, is.2))
-            (mark_all_cases marks ps (Done count) p is.0 is.1);
+            (set_all_cases marks ps (Done count) p is.0 is.1);
       }

@@ -14,9 +14,9 @@ use Rattle.wc_nest.specs.declared.marking.Mark.TheVariants.{New, Open, Done}
 use Rattle.wc_nest.specs.declared.ways.Way.{Way}
 use Rattle.wc_nest.specs.Inner.Searches.{Unbroken, Led, AreNext, IsSearchOf, IsNextWay}
 use Rattle.wc_nest.specs.Inner.Ways.{way_ends, WaysLead}
-use Rattle.wc_nest.specs.Inner.Marking.{mark_all}
+use Rattle.wc_nest.specs.Inner.Marking.{set_all}
 use Rattle.wc_nest.proofs.ListLemmas.{below_last, before_last, rises_front, get_take, take_get, get_drop, drop_get}
-use Rattle.wc_nest.proofs.MarkingLemmas.{length-mark_all, mark_all_out, mark_all_in, mark_all_cases}
+use Rattle.wc_nest.proofs.MarkingLemmas.{length-set_all, set_all_out, set_all_in, set_all_cases}
 
 pub reaches_on : {P : Type 0} {Leads : P → Option P → Type 0} (p : P) {q r : P} → Reaches Leads p q → Reaches Leads q r → Reaches Leads p r
 reaches_on p way here = way
@@ -315,7 +315,7 @@ module _ (ways : List Way) (marks : List Mark) (next path stack bounds : List �
     -- its ways are followed, and its segment, the last one, is a class
     module _ (rest low : List ℕ) (split : path ≡ rest ++ place ∷ []) (bounds_split : bounds ≡ low ++ place ∷ []) (all : (i : ℕ) (s : Way) → slice_get ways i ≡ Some s → s.source ≡ p → i < slice_index next p) where
       abbrev new : List Mark
-      new = mark_all marks (drop place stack) (Done count)
+      new = set_all marks (drop place stack) (Done count)
 
       low_in : (b : ℕ) → Contains low b → Contains bounds b
       low_in b within = subst (λ (xs : List ℕ). Contains xs b) (sym bounds_split) (Contains-append_left low (place ∷ []) b within)
@@ -338,17 +338,17 @@ module _ (ways : List Way) (marks : List Mark) (next path stack bounds : List �
           (place + at.0, omega arith, drop_get stack place at.0 r at.1)
 
       class_done : (r : ℕ) → Contains (drop place stack) r → slice_get new r ≡ Some (Done count)
-      class_done r among = let at = placed_in r among in mark_all_in marks (drop place stack) (Done count) r among (stack_known at.0 r at.2)
+      class_done r among = let at = placed_in r among in set_all_in marks (drop place stack) (Done count) r among (stack_known at.0 r at.2)
 
       done_kept : (r c : ℕ) → slice_get marks r ≡ Some (Done c) → slice_get new r ≡ Some (Done c)
-      done_kept r c at = mark_all_out marks (drop place stack) (Done count) r (Done c) (λ among. let open_at = placed_in r among in clash (search.open_marked open_at.0 r open_at.2)) at
+      done_kept r c at = set_all_out marks (drop place stack) (Done count) r (Done c) (λ among. let open_at = placed_in r among in clash (search.open_marked open_at.0 r open_at.2)) at
         where
           clash : {i : ℕ} → slice_get marks r ≡ Some (Open i) → ⊥
           clash {i} opened = let e : Done c ≡ Open i = same_Some (Done c) (Open i) (sym at ∙ opened) in cc
 
       -- an open node below the class stays open
       open_kept : (i r : ℕ) → i < place → slice_get stack i ≡ Some r → slice_get new r ≡ Some (Open i)
-      open_kept i r low_i at = mark_all_out marks (drop place stack) (Done count) r (Open i) (λ among. let open_at = placed_in r among in apart open_at.0 open_at.1 (search.open_marked open_at.0 r open_at.2)) (search.open_marked i r at)
+      open_kept i r low_i at = set_all_out marks (drop place stack) (Done count) r (Open i) (λ among. let open_at = placed_in r among in apart open_at.0 open_at.1 (search.open_marked open_at.0 r open_at.2)) (search.open_marked i r at)
         where
           apart : (k : ℕ) → place ≤ k → slice_get marks r ≡ Some (Open k) → ⊥
           apart k high opened = let e : i ≡ k = opens i k (same_Some (Open i) (Open k) (sym (search.open_marked i r at) ∙ opened)) in omega arith
@@ -359,7 +359,7 @@ module _ (ways : List Way) (marks : List Mark) (next path stack bounds : List �
           (λ old.
           let at_i : slice_get stack i ≡ Some r = search.marked_open i r old in
           ⊎_elim (λ (low_i : i < place). (low_i, at_i)) (λ (high : place ≤ i). absurd (clash (class_done r (in_class i r at_i high)))) (cases_lt i place))
-          (mark_all_cases marks (drop place stack) (Done count) r (Open i) at)
+          (set_all_cases marks (drop place stack) (Done count) r (Open i) at)
         where
           clash : slice_get new r ≡ Some (Done count) → ⊥
           clash done = let e : Open i ≡ Done count = same_Some (Open i) (Done count) (sym at ∙ done) in cc
@@ -390,7 +390,7 @@ module _ (ways : List Way) (marks : List Mark) (next path stack bounds : List �
       led_after a r (Some (Done d)) less is led = rw (done_kept r d is) tt
 
       done_cases : (r c : ℕ) → slice_get new r ≡ Some (Done c) → (Contains (drop place stack) r × (c ≡ count)) ⊎ (slice_get marks r ≡ Some (Done c))
-      done_cases r c at = ⊎_elim (λ inside. inl (inside.0, dones c (inside.1))) (λ old. inr old) (mark_all_cases marks (drop place stack) (Done count) r (Done c) at)
+      done_cases r c at = ⊎_elim (λ inside. inl (inside.0, dones c (inside.1))) (λ old. inr old) (set_all_cases marks (drop place stack) (Done count) r (Done c) at)
         where
           dones : (d : ℕ) → Done count ≡ Done d → d ≡ count
           dones d e = cc
@@ -411,15 +411,15 @@ module _ (ways : List Way) (marks : List Mark) (next path stack bounds : List �
       rest_low : (a : ℕ) → Contains rest a → a < place
       rest_low a within = before_last rest place a (subst (λ (xs : List ℕ). AllPairs (λ x y. x < y) xs) split search.path_rises) within
 
-      pub closes : IsSearchOf ways (mark_all marks (drop place stack) (Done count)) next rest (take place stack) low (count + 1)
+      pub closes : IsSearchOf ways (set_all marks (drop place stack) (Done count)) next rest (take place stack) low (count + 1)
       closes =
           record {
-            sized = omega (arith, search.sized, length-mark_all marks (drop place stack) (Done count));
+            sized = omega (arith, search.sized, length-set_all marks (drop place stack) (Done count));
             from = search.from;
             open_marked = λ i r at. let before = front_at i r at in open_kept i r before.0 before.1;
             marked_open = λ i r at. let before = opened_old i r at in get_take stack place i r before.0 before.1;
             followed = λ i s a at less stands_a. let before = front_at a s.source stands_a in led_after a s.target (slice_get marks s.target) before.0 refl (search.followed i s a at less before.1);
-            fresh = λ i s at is. ⊎_elim (λ inside. cc) (λ old. search.fresh i s at old) (mark_all_cases marks (drop place stack) (Done count) s.source New is);
+            fresh = λ i s at is. ⊎_elim (λ inside. cc) (λ old. search.fresh i s at old) (set_all_cases marks (drop place stack) (Done count) s.source New is);
             falls = λ s c among at. ⊎_elim
                 (λ inside.
                 let on_stack = placed_in s.source inside.0 in

@@ -3,6 +3,7 @@
 //! level are found by the path-based search of Gabow 2000.
 #![tactic(auto)]
 
+mod classes;
 mod marking;
 mod search;
 mod ways;

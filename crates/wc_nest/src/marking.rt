@@ -1,5 +1,5 @@
-ghost use Rattle.std.specs.Prelude.{◌≡◌, ◌<◌, All, length, replicate, IfOk};
-ghost use Rattle.wc_nest.specs.Inner.Marking.{mark_all};
+ghost use Rattle.std.specs.Prelude.{◌≡◌, ◌<◌, ℕ, All, length, replicate, IfOk};
+ghost use Rattle.wc_nest.specs.Inner.Marking.{set_all, IsOf};
 
 use std::alloc::{AllocError, Global};
 
@@ -11,21 +11,32 @@ pub enum Mark {
     Done(usize),
 }
 
-pub fn mark_all(marks: &mut Vec<Mark>, nodes: &[u32], mark: Mark)
-    requires { All (λ p. p < length marks.old.items) nodes.now }
-    ensures { marks.new.items ≡ mark_all marks.old.items nodes.now mark }
+pub fn set_all<T: Copy>(items: &mut Vec<T>, places: &[u32], value: T)
+    requires { All (λ p. p < length items.old.items) places.now }
+    ensures { items.new.items ≡ set_all items.old.items places.now value }
 {
-    for node in nodes {
-        marks[*node as usize] = mark;
+    for place in places {
+        items[*place as usize] = value;
     }
 }
 
-pub fn new_marks(alloc: Global, nodes: usize) -> Result<Vec<Mark>, AllocError>
-    ensures { IfOk result (λ v. v.items ≡ replicate nodes Mark.New) }
+pub fn new_list<T: Copy>(alloc: Global, count: usize, value: T) -> Result<Vec<T>, AllocError>
+    ensures { IfOk result (λ v. v.items ≡ replicate count value) }
 {
-    let mut marks = Vec::with_capacity(alloc, nodes)?;
-    for _node in 0..nodes {
-        marks.push(Mark::New)?;
+    let mut items = Vec::with_capacity(alloc, count)?;
+    for _item in 0..count {
+        items.push(value)?;
     }
-    Ok(marks)
+    Ok(items)
+}
+
+// The number of a node's class.
+pub fn class_of(marks: &[Mark], node: u32) -> usize
+    requires { node < length marks.now }
+    ensures { (c : ℕ) → IsOf marks.now node c → result ≡ c }
+{
+    match marks[node as usize] {
+        Mark::Done(class) => class,
+        _ => 0,
+    }
 }

@@ -1,10 +1,10 @@
 ghost use Rattle.std.specs.Prelude.{◌≡◌, ◌+◌, ◌-◌, ◌<◌, ◌≤◌, ◌^◌, ◌++◌, ◌∷◌, [], All, IfOk, Some, slice_get, slice_index, slice_set, length, drop, take, IsSome, Contains};
 ghost use Rattle.wc_model.specs.Flow.Walks.{AreSteps};
-ghost use Rattle.wc_nest.specs.Inner.Marking.{mark_all};
+ghost use Rattle.wc_nest.specs.Inner.Marking.{set_all};
 ghost use Rattle.wc_nest.specs.Inner.Searches.{IsSearch, IsNextWay, IsBound, IsBoundAfter, IsRound};
 ghost use Rattle.wc_nest.specs.Inner.Ways.{way_ends};
 
-use crate::marking::{Mark, mark_all};
+use crate::marking::{Mark, set_all};
 use crate::ways::Way;
 use std::alloc::{AllocError, Global};
 
@@ -23,7 +23,7 @@ pub struct Search {
 
 impl Search {
     // The search goes on to a new node.
-    fn enter(&mut self, node: u32) -> Result<(), AllocError>
+    pub fn enter(&mut self, node: u32) -> Result<(), AllocError>
         requires { node < length self.old.marks.items }
         ensures marks { self.new.marks.items ≡ slice_set self.old.marks.items node (Mark.Open (length self.old.stack.items)) }
         ensures next { self.new.next.items ≡ self.old.next.items }
@@ -86,14 +86,14 @@ impl Search {
         requires open { place ≤ length self.old.stack.items }
         requires path { slice_get self.old.path.items (length self.old.path.items - 1) ≡ Some place }
         requires bounds { slice_get self.old.bounds.items (length self.old.bounds.items - 1) ≡ Some place }
-        ensures marks { self.new.marks.items ≡ mark_all self.old.marks.items (drop place self.old.stack.items) (Mark.Done (length self.old.roots.items)) }
+        ensures marks { self.new.marks.items ≡ set_all self.old.marks.items (drop place self.old.stack.items) (Mark.Done (length self.old.roots.items)) }
         ensures next { self.new.next.items ≡ self.old.next.items }
         ensures stack { self.new.stack.items ≡ take place self.old.stack.items }
         ensures path { self.old.path.items ≡ self.new.path.items ++ place ∷ [] }
         ensures bounds { self.old.bounds.items ≡ self.new.bounds.items ++ place ∷ [] }
         ensures roots { IfOk result (λ _. self.new.roots.items ≡ self.old.roots.items ++ node ∷ []) }
     {
-        mark_all(
+        set_all(
             &mut self.marks,
             &self.stack[place..],
             Mark::Done(self.roots.len()),
@@ -133,7 +133,7 @@ impl Search {
     }
 
     // One round at the last node of the path.
-    fn advance(&mut self, ways: &[Way], place: usize) -> Result<(), AllocError>
+    pub fn advance(&mut self, ways: &[Way], place: usize) -> Result<(), AllocError>
         requires steps { AreSteps way_ends (length self.old.marks.items) ways.now }
         requires search { IsSearch ways.now self.old }
         requires last { slice_get self.old.path.items (length self.old.path.items - 1) ≡ Some place }
