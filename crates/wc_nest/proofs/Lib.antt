@@ -1,0 +1,5 @@
+pub mod ClassLemmas
+pub mod ListLemmas
+pub mod MarkingLemmas
+pub mod RoundLemmas
+pub mod SearchLemmas

@@ -1,0 +1,4 @@
+pub mod Classes
+pub mod Marking
+pub mod Searches
+pub mod Ways
