@@ -3,3 +3,4 @@ pub mod ZipLemmas
 pub mod FrameLemmas
 pub mod CodeLemmas
 pub mod ExpandLemmas
+pub mod OpenedLemmas

@@ -2,3 +2,4 @@ pub mod Numbers
 pub mod Frames
 pub mod Codes
 pub mod Exploring
+pub mod Opened

@@ -6,3 +6,4 @@
 mod code;
 mod frames;
 mod interned;
+mod opened;
