@@ -1,0 +1,5 @@
+pub mod Numbers
+pub mod Frames
+pub mod Codes
+pub mod Exploring
+pub mod Opened
