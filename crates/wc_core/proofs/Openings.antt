@@ -39,7 +39,7 @@ all_added count s (f ∷ fs) =
     all_added (count + 1) (edited (count + 1) s (Add f)) fs ∙ ap (λ l. with_facts s l) (append_assoc s.facts ((count + 1, f) ∷ []) (numbered_from (count + 1 + 1) fs))
 
 touched_by : (s : Setting) (f : Fact) → touches_any all_parts s (Add f) ≡ is_plain_fact f
-touched_by s (Loop at bound) = refl
+touched_by s (Loop at bound within) = refl
 touched_by s (Multibranch at to) = refl
 touched_by s (Multicall at to) = refl
 touched_by s (Noreturn at) = refl

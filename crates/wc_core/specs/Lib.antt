@@ -1,5 +1,4 @@
 pub mod Answers
-pub mod Boxes
 pub mod Features
 pub mod Fits
 pub mod Holds

@@ -95,7 +95,8 @@ impl<W: Work> Core<W> {
         ensures others { KeepsOthers W.is_feature self.old self.new session }
         ensures answer { MatchResult result (IsListed self.old self.new session) (λ _. self.new ≡ self.old) }
     {
-        let facts = copy_facts(&self.inputs.facts)?;
+        let alloc = *self.history.allocator();
+        let facts = copy_facts(alloc, &self.inputs.facts)?;
         self.history.reserve(self.owed + 1)?;
         self.history.push_reserved(Entry::List {
             session,

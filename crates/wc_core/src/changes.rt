@@ -110,12 +110,6 @@ fn copy_numbered(fact: &(u64, Fact)) -> Result<(u64, Fact), AllocError>
     Ok((fact.0, copy_fact(&fact.1)?))
 }
 
-pub(crate) fn copy_facts(facts: &Facts) -> Result<Facts, AllocError>
-    ensures { IfOk result (λ fs. fs ≡ facts.now) }
-{
-    facts.clone()
-}
-
 fn copy_all(alloc: Global, facts: &[(u64, Fact)]) -> Result<Vec<(u64, Fact)>, AllocError>
     ensures { IfOk result (λ fs. fs.items ≡ facts.now) }
 {
@@ -124,6 +118,12 @@ fn copy_all(alloc: Global, facts: &[(u64, Fact)]) -> Result<Vec<(u64, Fact)>, Al
         items.push(copy_numbered(fact)?)?;
     }
     Ok(items)
+}
+
+pub(crate) fn copy_facts(alloc: Global, facts: &Facts) -> Result<Facts, AllocError>
+    ensures { IfOk result (λ fs. fs ≡ facts.now) }
+{
+    Ok(Facts::new(copy_all(alloc, facts.items())?))
 }
 
 fn with_fact(alloc: Global, facts: &Facts, number: u64, fact: &Fact) -> Result<Facts, AllocError>
@@ -172,7 +172,7 @@ pub(crate) fn edited_inputs(
         }),
         Edit::Hardware(hardware) => Ok(Inputs {
             image,
-            facts: copy_facts(&inputs.facts)?,
+            facts: copy_facts(alloc, &inputs.facts)?,
             hardware: *hardware,
         }),
     }

@@ -3,7 +3,6 @@
 
 mod answers;
 mod asks;
-mod boxed;
 mod calls;
 mod changes;
 mod opening;
@@ -13,7 +12,6 @@ mod tickets;
 mod work;
 
 pub use answers::Edited;
-pub use boxed::Processor;
 pub use shared::Core;
 pub use tickets::{Flight, Landed, Next, Ticket};
 pub use work::{Given, Job, Work};

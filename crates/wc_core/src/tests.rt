@@ -12,7 +12,6 @@ use std::sync::Arc;
 use std::test::Fail;
 use wc_model::{
     Asked, Cycles, Describe, Edit, Fact, Hardware, Image, Inputs, Kind, Outcome, Part, Table, Text,
-    Value,
 };
 
 // A work whose value is the number of its runs, and beside it its inputs: a thousand for each cycle of `alu`, and a
@@ -247,78 +246,6 @@ fn answers_from_the_store_until_an_edit_touches_it(rt: HostRuntime) -> Result<()
     Ok(())
 }
 
-#[test]
-fn an_ask_after_want_of_memory_computes(rt: HostRuntime) -> Result<(), Fail> {
-    let alloc = rt.alloc();
-    let mut core = core_of(alloc, 1)?;
-    assert_eq!(rt; ask(&mut core, alloc, b"f")?.outcome, Outcome::Memory);
-    assert_eq!(rt; ask(&mut core, alloc, b"f")?.outcome, Outcome::Bound(1002));
-    Ok(())
-}
-
-#[test]
-fn the_earliest_of_33_names_is_computed_again(rt: HostRuntime) -> Result<(), Fail> {
-    let alloc = rt.alloc();
-    let mut core = core_of(alloc, 0)?;
-    for name in 0u8..33 {
-        assert_eq!(rt;
-            ask(&mut core, alloc, &[name])?.outcome,
-            Outcome::Bound(name as u128 + 1001)
-        );
-    }
-    assert_eq!(rt; ask(&mut core, alloc, &[32])?.outcome, Outcome::Bound(1033));
-    assert_eq!(rt; ask(&mut core, alloc, &[0])?.outcome, Outcome::Bound(1034));
-    assert_eq!(rt; core.history().len(), 1 + 34 * 4 + 2);
-    Ok(())
-}
-
-// A processor that never finds memory.
-#[derive(Drop)]
-struct Exhausted {
-    kind: Kind,
-    runs: u64,
-}
-
-impl Processor for Exhausted {
-    ghost can_run = { λ _. Unit {0} };
-
-    ghost kind_is = { λ w. w.kind };
-
-    ghost runs_is = { λ w. w.runs };
-
-    fn kind(&self) -> Kind {
-        self.kind
-    }
-
-    fn runs(&self) -> u64 {
-        self.runs
-    }
-
-    fn run(
-        &mut self,
-        _alloc: Global,
-        _job: &Job,
-        _given: &Given<Value>,
-    ) -> Result<Arc<Value>, AllocError> {
-        self.runs += 1;
-        Err(AllocError)
-    }
-}
-
-fn boxed_works(alloc: Global) -> Result<Vec<Box<dyn Processor + Send>>, AllocError>
-    ensures kinds { IfOk result (λ ws. map (λ w. (Processor-box w).kind_is w.value) ws.items ≡ 11 ∷ []) }
-    ensures runs { IfOk result (λ ws. map (λ w. (Processor-box w).runs_is w.value) ws.items ≡ 0 ∷ []) }
-    ensures ready { IfOk result (λ ws. Each (λ w. (Processor-box w).can_run w.value) ws.items) }
-{
-    let work = Exhausted {
-        kind: bound_kind()?,
-        runs: 0,
-    };
-    let mut works: Vec<Box<dyn Processor + Send>> = Vec::new(alloc);
-    works.push(Box::new(alloc, work)?)?;
-    Ok(works)
-}
-
 // The outcome of two asks over these works, and how often the first of them ran.
 fn ask_twice<W: Work>(alloc: Global, works: Vec<W>) -> Result<(Outcome, Outcome, u64), AllocError>
     requires described { W.described ≡ bound_alone ∷ [] }
@@ -335,11 +262,27 @@ fn ask_twice<W: Work>(alloc: Global, works: Vec<W>) -> Result<(Outcome, Outcome,
 }
 
 #[test]
-fn boxed_works_run_and_come_home(rt: HostRuntime) -> Result<(), Fail> {
+fn an_ask_after_want_of_memory_computes(rt: HostRuntime) -> Result<(), Fail> {
     let alloc = rt.alloc();
-    let (first, second, runs) = ask_twice(alloc, boxed_works(alloc)?)?;
+    let (first, second, runs) = ask_twice(alloc, works_of(alloc, 1)?)?;
     assert_eq!(rt; first, Outcome::Memory);
-    assert_eq!(rt; second, Outcome::Memory);
+    assert_eq!(rt; second, Outcome::Bound(1002));
     assert_eq!(rt; runs, 2);
+    Ok(())
+}
+
+#[test]
+fn the_earliest_of_33_names_is_computed_again(rt: HostRuntime) -> Result<(), Fail> {
+    let alloc = rt.alloc();
+    let mut core = core_of(alloc, 0)?;
+    for name in 0u8..33 {
+        assert_eq!(rt;
+            ask(&mut core, alloc, &[name])?.outcome,
+            Outcome::Bound(name as u128 + 1001)
+        );
+    }
+    assert_eq!(rt; ask(&mut core, alloc, &[32])?.outcome, Outcome::Bound(1033));
+    assert_eq!(rt; ask(&mut core, alloc, &[0])?.outcome, Outcome::Bound(1034));
+    assert_eq!(rt; core.history().len(), 1 + 34 * 4 + 2);
     Ok(())
 }

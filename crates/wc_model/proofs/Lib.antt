@@ -7,4 +7,6 @@ pub mod Replays
 pub mod Searching
 pub mod Sharing
 pub mod Starting
+pub mod SteeringLemmas
 pub mod Untouched
+pub mod WorkedRows

@@ -1,4 +1,9 @@
+pub mod Chain
 pub mod Closures
 pub mod Edits
 pub mod Entries
+pub mod Feature
 pub mod History
+pub mod Kinds
+pub mod Phases
+pub mod Registry

@@ -9,8 +9,8 @@ use Rattle.wc_model.specs.declared.elf_image.Image.{Image}
 use Rattle.wc_model.specs.declared.flow_facts.Fact.{Fact}
 use Rattle.wc_model.specs.declared.flow_system.SystemStep.{SystemStep}
 use Rattle.wc_model.specs.declared.machine.Hardware.{Hardware}
-use Rattle.wc_model.specs.Workspace.Chain.{IsUnbuiltInsn, IsUnbuiltCode, faulty, unbuilt, loops, many, IsGreatest}
-use Rattle.wc_model.specs.Program.Paths.{Reaches}
+use Rattle.wcet.specs.Acyclic.Chain.{IsUnbuiltInsn, IsUnbuiltCode, faulty, unbuilt, loops, many, IsGreatest}
+use Rattle.wcet.specs.Acyclic.Paths.{Reaches}
 use Rattle.wc_model.specs.Program.Positions.{Position, start_of}
 use Rattle.wc_model.specs.Program.Steps.{fault_at, insn_at, steps_of}
 use Rattle.wc_model.specs.Flow.Walks.{AreSteps, Reaches as Joins, IsWalk, walk_cost, IsCycle, IsAcyclicFrom, HasStep, IsBest}

@@ -9,7 +9,7 @@ use Rattle.wc_model.specs.declared.instructions.Class.{Class}
 use Rattle.wc_model.specs.declared.instructions.Control.{Control}
 use Rattle.wc_model.specs.declared.instructions.Control.TheVariants.{Next, Jump, Call as CallTo, Return, IndirectJump, IndirectCall}
 use Rattle.wc_model.specs.declared.instructions.Insn.{Insn}
-use Rattle.wc_model.specs.Workspace.Chain.{IsUnbuiltControl}
+use Rattle.wcet.specs.Acyclic.Chain.{IsUnbuiltControl}
 use Rattle.wc_model.specs.Program.Positions.{Position, start_of}
 use Rattle.wc_model.specs.Program.Steps.{Step, fault_at, insn_at, insn_steps, passes_on, next_of, return_from, taken_step, taken_targets, steps_unless, steps_known, steps_of}
 use Rattle.wcet.specs.Exploring.{IsBuilt}

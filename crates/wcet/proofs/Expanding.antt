@@ -10,8 +10,8 @@ use Rattle.wc_model.specs.declared.flow_facts.Fact.{Fact}
 use Rattle.wc_model.specs.declared.flow_system.SystemStep.{SystemStep}
 use Rattle.wc_model.specs.declared.instructions.Insn.{Insn}
 use Rattle.wc_model.specs.declared.machine.Cycles.{Cycles}
-use Rattle.wc_model.specs.Workspace.Chain.{IsUnbuiltCode}
-use Rattle.wc_model.specs.Program.Paths.{along, known_cycles, insn_cycles}
+use Rattle.wcet.specs.Acyclic.Chain.{IsUnbuiltCode}
+use Rattle.wcet.specs.Acyclic.Paths.{along, known_cycles, insn_cycles}
 use Rattle.wc_model.specs.Program.Positions.{Position, start_of}
 use Rattle.wc_model.specs.Program.Steps.{Step, insn_at, steps_of}
 use Rattle.wc_model.proofs.Places.{get_left, get_push_cases, get_within}

@@ -8,8 +8,8 @@ use Rattle.std.proofs.lemmas.List.Quantifiers.{all_pairs_push}
 use Rattle.std.proofs.lemmas.Option.{same_Some, slice_get-get_or}
 use Rattle.wc_model.specs.declared.elf_image.Image.{Image}
 use Rattle.wc_model.specs.declared.flow_facts.Fact.{Fact}
-use Rattle.wc_model.specs.Workspace.Chain.{IsUnbuiltCode, many}
-use Rattle.wc_model.specs.Program.Paths.{Reaches}
+use Rattle.wcet.specs.Acyclic.Chain.{IsUnbuiltCode, many}
+use Rattle.wcet.specs.Acyclic.Paths.{Reaches}
 use Rattle.wc_model.specs.Program.Positions.{Position, start_of}
 use Rattle.wc_model.proofs.Places.{contains_from_get}
 use Rattle.wcet.specs.declared.chain.code.Code.{Code}

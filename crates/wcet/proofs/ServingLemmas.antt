@@ -16,8 +16,8 @@ use Rattle.wc_model.specs.declared.entries.Entry.TheVariants as entry
 use Rattle.wc_model.specs.declared.inputs.Edit.{Edit}
 use Rattle.wc_model.specs.declared.values.Outcome.{Outcome}
 use Rattle.wc_model.specs.declared.values.Outcome.TheVariants as outcome
-use Rattle.wc_model.specs.Workspace.Chain.{chain, bounded}
-use Rattle.wc_model.specs.Program.Paths.{IsPath}
+use Rattle.wcet.specs.Acyclic.Chain.{chain, bounded}
+use Rattle.wcet.specs.Acyclic.Paths.{IsPath}
 use Rattle.wc_model.specs.Program.Positions.{start_of}
 use Rattle.wc_model.specs.Workspace.Edits.{Setting, edit_of, after_edits}
 use Rattle.wc_model.specs.Workspace.History.{Opening, EachRight, IsRight}

@@ -6,7 +6,7 @@ use Rattle.wc_model.specs.declared.elf_image.Image.{Image}
 use Rattle.wc_model.specs.declared.flow_facts.Fact.{Fact}
 use Rattle.wc_model.specs.declared.flow_system.SystemStep.{SystemStep}
 use Rattle.wc_model.specs.declared.machine.Cycles.{Cycles}
-use Rattle.wc_model.specs.Program.Paths.{Reaches, here, along, IsPath, path_cycles}
+use Rattle.wcet.specs.Acyclic.Paths.{Reaches, here, along, IsPath, path_cycles}
 use Rattle.wc_model.specs.Program.Positions.{Position, start_of}
 use Rattle.wc_model.specs.Program.Steps.{Step, steps_of}
 use Rattle.wc_model.specs.Flow.Walks.{Reaches as Joins, here as joined, along as joins, IsWalk, walk_cost}

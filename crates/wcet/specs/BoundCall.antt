@@ -3,7 +3,7 @@ use Rattle.std.specs.Prelude.{◌<◌, ℕ, List, Option, false}
 use Rattle.wc_base.specs.declared.faults.Fault.{Fault as FaultCode}
 use Rattle.wc_io.specs.Rows.{Row, failed_count}
 use Rattle.wc_model.specs.declared.values.Outcome.{Outcome}
-use Rattle.wc_model.specs.Workspace.Chain.{IsChain}
+use Rattle.wcet.specs.Acyclic.Chain.{IsChain}
 use Rattle.wcet.specs.declared.answers.Answer.{Answer}
 use Rattle.wcet.specs.declared.answers.Answer.TheVariants as answer
 use Rattle.wcet.specs.declared.loading.Loaded.{Loaded}

@@ -5,8 +5,8 @@ use Rattle.wc_model.specs.declared.flow_facts.Fact.{Fact}
 use Rattle.wc_model.specs.declared.flow_system.SystemStep.{SystemStep}
 use Rattle.wc_model.specs.declared.instructions.Insn.{Insn}
 use Rattle.wc_model.specs.declared.machine.Cycles.{Cycles}
-use Rattle.wc_model.specs.Workspace.Chain.{IsUnbuiltInsn, IsUnbuiltCode}
-use Rattle.wc_model.specs.Program.Paths.{Reaches, step_cycles}
+use Rattle.wcet.specs.Acyclic.Chain.{IsUnbuiltInsn, IsUnbuiltCode}
+use Rattle.wcet.specs.Acyclic.Paths.{Reaches, step_cycles}
 use Rattle.wc_model.specs.Program.Positions.{Position, start_of}
 use Rattle.wc_model.specs.Program.Steps.{Step, fault_at, insn_at, steps_of}
 use Rattle.wcet.specs.declared.chain.code.Code.{Code}

@@ -1,3 +1,4 @@
+pub mod Acyclic
 pub mod Answers
 pub mod BoundCall
 pub mod Exploring

@@ -2,7 +2,7 @@
 use Rattle.std.specs.Prelude.{ℕ, ◌≡◌, Bool, true, false, List, [], ◌∷◌, ◌++◌, None, Some}
 use Rattle.wc_model.specs.declared.flow_facts.Fact.{Fact}
 use Rattle.wc_model.specs.declared.instructions.Insn.{Insn}
-use Rattle.wc_model.specs.Workspace.Chain.{IsUnbuiltInsn}
+use Rattle.wcet.specs.Acyclic.Chain.{IsUnbuiltInsn}
 use Rattle.wc_model.specs.Program.Positions.{start_of}
 use Rattle.wc_model.specs.Program.Steps.{Step, control_fault, insn_steps}
 use Rattle.wcet.specs.declared.chain.ways.Way.{Way}

@@ -4,7 +4,7 @@ ghost use Rattle.wc_base.specs.declared.faults.Fault.{Fault as FaultCode};
 ghost use Rattle.wc_io.specs.Causes.{Rose};
 ghost use Rattle.wc_io.specs.Rows.{failed_count};
 ghost use Rattle.wc_io.specs.Writing.{AppendsPart};
-ghost use Rattle.wc_model.specs.Workspace.Chain.{IsChain};
+ghost use Rattle.wcet.specs.Acyclic.Chain.{IsChain};
 ghost use Rattle.wcet.specs.Answers.{Shows};
 ghost use Rattle.wcet.specs.BoundCall.{Explains, Prints, Refuses, RunsOut, HasFault, AreSound, Opens, StopsReading};
 ghost use Rattle.wcet.specs.Files.{Holds};

@@ -5,7 +5,7 @@ ghost use Rattle.wc_core.specs.Features.{Each};
 ghost use Rattle.wc_core.specs.Holds.{bound_alone};
 ghost use Rattle.wc_io.specs.Causes.{Rose};
 ghost use Rattle.wc_io.specs.Lines.{lines_of};
-ghost use Rattle.wc_model.specs.Workspace.Chain.{chain};
+ghost use Rattle.wcet.specs.Acyclic.Chain.{chain};
 ghost use Rattle.wc_model.specs.Workspace.History.{IsLegal, opening_entries};
 ghost use Rattle.wcet.specs.ReportText.{IsOfKinds};
 ghost use Rattle.wcet.specs.Session.{IsRun, opening_of};
@@ -15,7 +15,7 @@ use crate::loading::Loaded;
 use crate::work::{ChainWork, bound_describes};
 use std::alloc::{AllocError, Global};
 use std::sync::{Arc, Wait};
-use wc_core::{Core, Processor, Work};
+use wc_core::{Core, Work};
 use wc_io::{Lines, Sink, Source};
 use wc_model::{Ended, Entry, Image};
 use wc_session::{SessionEnd, session};
@@ -147,11 +147,8 @@ pub fn run_shipped<R: Wait, S: Source + Drop, K: Sink + Drop>(
     ensures read_fault { IfOk result (λ r. r.ended ≡ Ended.ReadFault → Rose (S.faults source) (S.faults r.source)) }
     ensures write_fault { IfOk result (λ r. r.ended ≡ Ended.WriteFault → Rose (K.faults sink) (K.faults r.sink)) }
 {
-    let Ok(work) = Box::new(alloc, ChainWork::new()) else {
-        return Err((source, sink));
-    };
-    let mut works: Vec<Box<dyn Processor + Send>> = Vec::new(alloc);
-    let Ok(()) = works.push(work) else {
+    let mut works = Vec::new(alloc);
+    let Ok(()) = works.push(ChainWork::new()) else {
         return Err((source, sink));
     };
     match run_session(rt, alloc, loaded, works, source, sink) {

@@ -1,13 +1,14 @@
 ghost use Rattle.std.specs.Prelude.{◌≡◌, ◌∷◌, [], Some, IfOk};
 ghost use Rattle.wc_core.specs.Holds.{bound_alone};
-ghost use Rattle.wc_model.specs.Workspace.Feature.{outcome_of as outcome_of_value};
+ghost use Rattle.wcet.specs.Acyclic.Feature.{outcome_of as outcome_of_bound};
 ghost use Rattle.wc_model.specs.Workspace.History.{bound_kind as bound_kind_of};
 
 use crate::chain::chain;
 use std::alloc::{AllocError, Global};
 use std::sync::Arc;
-use wc_core::{Given, Job, Processor};
-use wc_model::{Describe, Kind, Outcome, Part, Table, Value};
+use wc_base::Fault;
+use wc_core::{Given, Job, Work};
+use wc_model::{Describe, Kind, Outcome, Part, Table};
 
 /// The work of a workspace that computes bounds alone: it runs the whole chain.
 #[derive(Drop)]
@@ -33,24 +34,40 @@ pub fn bound_kind() -> Kind
     }
 }
 
-fn value_of(outcome: Outcome) -> Result<Value, AllocError>
-    ensures { IfOk result (λ v. outcome_of_value v ≡ Some outcome) }
+// A bound, or the reason why there is none.
+fn bound_of(outcome: Outcome) -> Result<Result<u128, Fault>, AllocError>
+    ensures { IfOk result (λ bound. outcome_of_bound bound ≡ outcome) }
 {
     match outcome {
-        Outcome::Bound(cycles) => Ok(Value::Bound(Ok(cycles))),
-        Outcome::Fault(fault) => Ok(Value::Bound(Err(fault))),
+        Outcome::Bound(cycles) => Ok(Ok(cycles)),
+        Outcome::Fault(fault) => Ok(Err(fault)),
         Outcome::Memory => Err(AllocError),
     }
 }
 
-impl Processor for ChainWork {
+impl Work for ChainWork {
+    type Value = Result<u128, Fault>;
+
+    ghost use Rattle.std.specs.Prelude.{◌∷◌, [], Some};
+    ghost use Rattle.wc_core.specs.Holds.{bound_alone};
     ghost use Rattle.wc_model.specs.Workspace.History.{bound_kind as bound_kind_of};
+    ghost use Rattle.wcet.specs.Acyclic.Agreeing.{stable_feature, feature_tells};
+    ghost use Rattle.wcet.specs.Acyclic.Chain.{chain as chain_of};
+    ghost use Rattle.wcet.specs.Acyclic.Feature.{IsFeature, outcome_of as outcome_of_bound};
 
-    ghost can_run = { λ _. Unit {0} };
+    ghost may_run = { λ _. Unit {0} };
 
-    ghost kind_is = { λ _. bound_kind_of };
+    ghost kind_of = { λ _. bound_kind_of };
 
-    ghost runs_is = { λ w. w.runs };
+    ghost runs_of = { λ w. w.runs };
+
+    ghost described = { bound_alone ∷ [] };
+
+    ghost is_feature = { IsFeature };
+
+    ghost outcome_of = { λ bound. Some (outcome_of_bound bound) };
+
+    ghost chain = { chain_of };
 
     fn kind(&self) -> Kind {
         bound_kind()
@@ -64,8 +81,8 @@ impl Processor for ChainWork {
         &mut self,
         alloc: Global,
         job: &Job,
-        _given: &Given<Value>,
-    ) -> Result<Arc<Value>, AllocError> {
+        _given: &Given<Result<u128, Fault>>,
+    ) -> Result<Arc<Result<u128, Fault>>, AllocError> {
         self.runs += 1;
         let inputs = &job.inputs;
         let outcome = chain(
@@ -75,8 +92,21 @@ impl Processor for ChainWork {
             &inputs.hardware,
             job.name.items(),
         )?;
-        Ok(Arc::new(alloc, value_of(outcome)?)?)
+        Ok(Arc::new(alloc, bound_of(outcome)?)?)
     }
+
+    fn outcome(bound: &Result<u128, Fault>) -> Option<Outcome>
+        ensures { result ≡ Some (outcome_of_bound bound.now) }
+    {
+        match bound {
+            Ok(cycles) => Some(Outcome::Bound(*cycles)),
+            Err(fault) => Some(Outcome::Fault(*fault)),
+        }
+    }
+
+    ghost stable = { stable_feature };
+
+    ghost tells = { feature_tells };
 }
 
 /// The one description of such a workspace: the bound requires nothing and reads all parts.

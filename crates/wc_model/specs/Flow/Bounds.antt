@@ -1,6 +1,6 @@
 -- Flow facts for call strings: which bound a loop has, and when a path meets the facts. Call strings after Sharir and
 -- Pnueli 1981, loop bounds and limits after Li and Malik 1995.
-use Rattle.std.specs.Prelude.{ℕ, zero, suc, ◌≡◌, ◌+◌, ◌*◌, ◌%◌, ◌^◌, ◌<◌, ◌≤◌, ◌==◌, ◌&&◌, Bool, true, false, if◌then◌else◌, List, [], ◌∷◌, reverse, Option, None, Some, Contains, slice_get, length}
+use Rattle.std.specs.Prelude.{ℕ, zero, suc, ◌≡◌, ◌+◌, ◌*◌, ◌%◌, ◌^◌, ◌≤◌, ◌==◌, ◌&&◌, Bool, true, false, if◌then◌else◌, List, [], ◌∷◌, reverse, Option, None, Some, Contains, slice_get, length}
 use Rattle.std.specs.List.{AllZip}
 use Rattle.wc_base.specs.declared.faults.Fault.{Fault}
 use Rattle.wc_base.specs.declared.faults.Fault.TheVariants.{Unbounded}

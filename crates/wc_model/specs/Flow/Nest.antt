@@ -1,7 +1,7 @@
 -- The loop nest of a control-flow graph: the loops are the classes of places that lead to each other, a loop's heads
 -- are where it is entered, and the loops inside it are those that are left without the steps back to the heads. After
 -- Steensgaard's nests, in the terms of Ramalingam 2002 (On loops, dominators, and dominance frontiers).
-use Rattle.std.specs.Prelude.{ℕ, zero, suc, ◌≡◌, ◌<◌, ◌≤◌, ◌↔◌, ◌⊎◌, Bool, true, List, Option, None, Some, IfSome, AllPairs, slice_get, length}
+use Rattle.std.specs.Prelude.{ℕ, zero, suc, ◌≡◌, ◌<◌, ◌≤◌, ◌↔◌, ◌⊎◌, true, List, Option, None, Some, IfSome, AllPairs, slice_get, length}
 use Rattle.std.specs.List.{AllZip}
 use Rattle.wc_base.specs.declared.faults.Fault.{Fault}
 use Rattle.wc_base.specs.declared.faults.Fault.TheVariants.{Irreducible}

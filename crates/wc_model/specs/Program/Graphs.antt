@@ -1,9 +1,7 @@
 -- The control-flow graph of a function with its calls expanded: the positions on a walk from its start to its exit,
 -- in order, and the steps between them. Call strings after Sharir and Pnueli 1981.
-use Rattle.std.specs.Prelude.{ℕ, ◌≡◌, ◌<◌, ◌≤◌, ◌^◌, ◌↔◌, ◌⊎◌, Bool, List, [], ◌∷◌, reverse, Option, None, Some, IfSome, All, AllPairs, Contains, length, slice_get}
-use Rattle.std.specs.Cmp.Lexicographic.{slice_cmp}
+use Rattle.std.specs.Prelude.{ℕ, ◌≡◌, ◌<◌, ◌≤◌, ◌^◌, ◌↔◌, ◌⊎◌, List, [], ◌∷◌, Option, None, Some, IfSome, All, AllPairs, Contains, length, slice_get}
 use Rattle.std.specs.List.{AllZip, flat_map}
-use Rattle.std.specs.declared.cmp.Ordering.{Ordering}
 use Rattle.std.specs.declared.cmp.Ordering.TheVariants.{Less}
 use Rattle.wc_base.specs.declared.faults.Fault.{Fault}
 use Rattle.wc_base.specs.declared.faults.Fault.TheVariants.{TooLarge, NoExit}
@@ -14,9 +12,11 @@ use Rattle.wc_model.specs.declared.graphs.Context.{Context}
 use Rattle.wc_model.specs.declared.graphs.Graph.{Graph}
 use Rattle.wc_model.specs.declared.graphs.Node.{Node}
 use Rattle.wc_model.specs.declared.graphs.Step.{Step as NumberedStep}
+use Rattle.wc_model.specs.Flow.Ends.{step_ends}
+use Rattle.wc_model.specs.Flow.Walks.{Joins}
 use Rattle.wc_model.specs.Program.Positions.{Call, Position, start_of, position_cmp, stack_cmp}
 use Rattle.wc_model.specs.Program.Reaching.{Reaches, Ends, IsLive}
-use Rattle.wc_model.specs.Program.Steps.{Move, Step, LeadsBy, fault_at, insn_at, steps_of}
+use Rattle.wc_model.specs.Program.Steps.{Step, LeadsBy, fault_at, insn_at, steps_of}
 
 -- The positions of the function at `entry`.
 module _ (image : Image) (facts : List Fact) (entry : ℕ) where
@@ -110,7 +110,7 @@ pub record IsGraphOf (image : Image) (facts : List Fact) (entry : ℕ) (graph : 
 
 -- a numbered step leads from node to node, or to the exit
 abbrev pub LeadsIn : List NumberedStep → ℕ → Option ℕ → Type 0
-LeadsIn steps p t = (s : NumberedStep) × Contains steps s × (s.source ≡ p) × (s.target ≡ t)
+LeadsIn steps = Joins step_ends steps
 
 pub record IsGraph (graph : Graph) : Type 0 where
   pub few : length graph.nodes ≤ 100000

@@ -1,5 +1,5 @@
 ghost use Rattle.std.specs.Prelude.{◌≡◌, ℕ, List, map, Ok, IfOk};
-ghost use Rattle.wc_model.specs.Workspace.Chain.{IsChain};
+ghost use Rattle.wcet.specs.Acyclic.Chain.{IsChain};
 ghost use Rattle.wc_model.specs.Program.Words.{find_of};
 ghost use Rattle.wc_model.specs.declared.flow_facts.Fact.{Fact};
 

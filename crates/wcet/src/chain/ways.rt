@@ -1,6 +1,6 @@
 ghost use Rattle.std.specs.Prelude.{◌≡◌, Some, MatchOption};
 ghost use Rattle.wcet.specs.Ways.{AreWays};
-ghost use Rattle.wc_model.specs.Workspace.Chain.{IsUnbuiltInsn};
+ghost use Rattle.wcet.specs.Acyclic.Chain.{IsUnbuiltInsn};
 
 use wc_base::Addr;
 use wc_model::{Control, Insn};

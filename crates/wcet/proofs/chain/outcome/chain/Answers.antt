@@ -1,5 +1,5 @@
 use Rattle.std.proofs.Common.{sym, ◌∙◌}
-use Rattle.wc_model.specs.Workspace.Chain.{unnamed}
+use Rattle.wcet.specs.Acyclic.Chain.{unnamed}
 use Rattle.wcet.proofs.chain.outcome.chain.Goals as goal
 
 pub returns-in-Err : goal.returns-in-Err

@@ -1,7 +1,7 @@
 use Rattle.std.proofs.Common.{◌≡◌, List, [], Some, length, subst, arith}
 use Rattle.wc_model.specs.declared.flow_facts.Fact.{Fact}
 use Rattle.wc_model.specs.declared.flow_system.SystemStep.{SystemStep}
-use Rattle.wc_model.specs.Workspace.Chain.{unbuilt, bounded}
+use Rattle.wcet.specs.Acyclic.Chain.{unbuilt, bounded}
 use Rattle.wc_model.specs.Flow.Walks.{IsCycle, IsCostFrom}
 use Rattle.wcet.specs.Exploring.{IsExploration}
 use Rattle.wcet.proofs.Answer.{are_steps, not_empty, cycle_unbuilt, none_unbuilt, all_lead, greatest}

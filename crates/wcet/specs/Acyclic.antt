@@ -1,0 +1,4 @@
+pub mod Agreeing
+pub mod Chain
+pub mod Feature
+pub mod Paths
