@@ -1,13 +1,7 @@
-// A library with one function.
+//! The flow system of implicit path enumeration, after Li and Malik 1995: a count per step of the control-flow graph,
+//! and a row per loop and per stated limit. Refused by a ceiling on the values, and, where limits are stated, by the
+//! size of the tableau that solves it.
 #![tactic(auto)]
 
-ghost use Rattle.std.specs.Prelude.{◌≡◌};
-ghost use Rattle.wc_system.specs.Echo.{echo_of};
-
-// The `ensures` clause is the contract: what `echo` returns is `echo_of` of its argument, a definition
-// in `specs/Echo.antt`, which a caller's clause can cite too.
-pub fn echo(x: usize) -> usize
-    ensures { result ≡ echo_of x }
-{
-    x
-}
+mod loops;
+mod steps;

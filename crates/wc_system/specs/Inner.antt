@@ -1,0 +1,2 @@
+pub mod HeadTables
+pub mod OpenLoops
