@@ -1,5 +1,6 @@
 pub mod Current
 pub mod Greatest
+pub mod HardwareLemmas
 pub mod Leaving
 pub mod Orders
 pub mod Places

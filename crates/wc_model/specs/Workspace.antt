@@ -7,3 +7,8 @@ pub mod History
 pub mod Kinds
 pub mod Phases
 pub mod Registry
+pub mod Firsts
+pub mod Hardware
+pub mod History
+pub mod KindNames
+pub mod States
