@@ -1,5 +1,5 @@
 pub mod RowLemmas
-pub mod OutLemmas
+pub mod HouseLemmas
 pub mod WritingLemmas
 pub mod FeedLemmas
 pub mod FileLemmas

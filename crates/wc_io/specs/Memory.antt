@@ -1,5 +1,5 @@
 -- What the sources and sinks in memory do beyond what every one does, and the files that a house in memory holds.
-use Rattle.std.specs.Prelude.{◌≡◌, ℕ, ◌==◌, min, Bool, true, false, if◌then◌else◌, List, [], ◌∷◌, length, map, Option, Result, IfOk, MatchResult, option_map, string_bytes, bytes_eq}
+use Rattle.std.specs.Prelude.{◌≡◌, ℕ, ◌==◌, min, Bool, true, false, if◌then◌else◌, List, [], ◌∷◌, length, Option, Result, IfOk, MatchResult, option_map, string_bytes, bytes_eq}
 use Rattle.std.specs.List.{find, list_any}
 use Rattle.wc_io.specs.Causes.{Counts, counted}
 use Rattle.wc_io.specs.declared.memory.MemorySink.{MemorySink}

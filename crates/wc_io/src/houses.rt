@@ -52,8 +52,7 @@ pub trait House {
         ensures fresh { IfOk result (λ s. Self.Sink.faults s ≡ 0) }
         ensures empty { IfOk result (λ s. IfSome (Self.Sink.held s) (λ bytes. bytes ≡ [])) }
         ensures held { IfOk result (λ s. IsEmptied (tells self.old) (file self.old path.now) (Self.Sink.held s)) }
-        ensures emptied {
-            OnOk result (IsEmptied (tells self.old) (file self.old path.now) (file self.new path.now)) }
+        ensures emptied { OnOk result (IsEmptied (tells self.old) (file self.old path.now) (file self.new path.now)) }
         ensures kept { OnErr result ((p : List ℕ) → file self.new p ≡ file self.old p) }
         ensures others { KeepsOthers path.now (file self.old) (file self.new) }
         ensures tells { tells self.new ≡ tells self.old }
@@ -62,8 +61,7 @@ pub trait House {
     /// Takes a source back. Its row is failed from then on where the source counted a fault.
     fn return_source(&mut self, source: Self::Source)
         requires { IsRowOf (Self.Source.place source) false (opened self.old) }
-        ensures rows {
-            MarksRow (Self.Source.place source) (Self.Source.faults source) (opened self.old) (opened self.new) }
+        ensures rows { MarksRow (Self.Source.place source) (Self.Source.faults source) (opened self.old) (opened self.new) }
         ensures files { (p : List ℕ) → file self.new p ≡ file self.old p }
         ensures tells { tells self.new ≡ tells self.old }
         ensures out { ComesBack (Self.Source.place source) (are_out self.old) (are_out self.new) };
@@ -75,8 +73,7 @@ pub trait House {
         ensures rows { MarksRow (Self.Sink.place sink) (Self.Sink.faults sink) (opened self.old) (opened self.new) }
         ensures file { IsFilled (file self.old (path_of (Self.Sink.place sink) (opened self.old)))
             (Self.Sink.held sink) (file self.new (path_of (Self.Sink.place sink) (opened self.old))) }
-        ensures others {
-            KeepsOthers (path_of (Self.Sink.place sink) (opened self.old)) (file self.old) (file self.new) }
+        ensures others { KeepsOthers (path_of (Self.Sink.place sink) (opened self.old)) (file self.old) (file self.new) }
         ensures tells { tells self.new ≡ tells self.old }
         ensures out { ComesBack (Self.Sink.place sink) (are_out self.old) (are_out self.new) };
 }

@@ -120,8 +120,7 @@ impl House for MemoryHouse {
     fn return_sink(&mut self, sink: MemorySink)
         requires { IsRowOf sink.place true (rows_of self.old) }
         ensures rows { MarksRow sink.place sink.faults (rows_of self.old) (rows_of self.new) }
-        ensures filled {
-            files_of self.new ≡ filled (path_of sink.place (rows_of self.old)) sink.held.items (files_of self.old) }
+        ensures filled { files_of self.new ≡ filled (path_of sink.place (rows_of self.old)) sink.held.items (files_of self.old) }
         ensures file { IsFilled (file_at (files_of self.old) (path_of sink.place (rows_of self.old)))
             (Some sink.held.items) (file_at (files_of self.new) (path_of sink.place (rows_of self.old))) }
         ensures others { KeepsOthers (path_of sink.place (rows_of self.old))

@@ -1,4 +1,4 @@
-use Rattle.std.proofs.Common.{◌<◌, ap, string_bytes, length, arith}
+use Rattle.std.proofs.Common.{◌<◌, ap, length, arith}
 use Rattle.wc_io.proofs.FileLemmas.{absent, found, first_within, none_filled, set_filled}
 use Rattle.wc_io.specs.Memory.{seen}
 use Rattle.wc_io.specs.declared.memory_files.MemoryFile.{MemoryFile}
