@@ -9,6 +9,9 @@ ghost use Rattle.wc_category.specs.Sound.{CategoriesAreJustified, CategoriesAreS
 use std::alloc::{AllocError, Global};
 use wc_model::{Category, Flags};
 
+#[cfg(test)]
+mod tests;
+
 /// The category of each node, from the flags of must and may; `NoCache` for all where there are no flags.
 pub fn categories(
     alloc: Global,

@@ -1,6 +1,5 @@
-ghost use Rattle.std.specs.Prelude.{◌≡◌, ◌<◌, IfOk, length, map, slice_index_or};
+ghost use Rattle.std.specs.Prelude.{◌≡◌, ◌<◌, All, IfOk, length, map, slice_index_or};
 ghost use Rattle.wc_model.specs.Cache.Costs.{fetch_upper, upper, upper_costs};
-ghost use Rattle.wc_model.specs.Program.Graphs.{IsGraph};
 
 use crate::base_cycles;
 use std::alloc::{AllocError, Global};
@@ -13,7 +12,7 @@ pub fn costs(
     categories: &[Category],
     cycles: &Cycles,
 ) -> Result<Costs, AllocError>
-    requires graph { IsGraph graph.now }
+    requires sources { All (λ s. s.source < length graph.now.nodes) graph.now.steps }
     requires count { length categories.now ≡ length graph.now.nodes }
     ensures { IfOk result (λ costs. costs.of ≡ upper_costs graph.now categories.now cycles.now) }
 {

@@ -1,5 +1,9 @@
+ghost use Rattle.std.specs.Prelude.{IsTrue};
+ghost use Rattle.wc_model.specs.Cache.Ranges.{are_cache_numbers};
+
 use crate::lines;
-use std::alloc::Global;
+use std::alloc::{AllocError, Global};
+use std::test::Fail;
 use wc_model::{Cache, Class, Control, Graph, Insn, Node, StartState, Table};
 
 fn node(pc: u32) -> Node {
@@ -35,15 +39,19 @@ fn cache(sets: u16, line: u8) -> Cache
     }
 }
 
-// per row: sets, line size, and of 0x8000, 0x800C, 0x8010 and 0xFFFFFFFC the lines and the sets
 #[test]
-fn divides_addresses_by_lines_and_lines_among_sets(rt: HostRuntime) {
-    let pcs = [0x8000, 0x800C, 0x8010, 0xFFFF_FFFC];
+fn divides_addresses_by_lines_and_lines_among_sets(rt: HostRuntime) -> Result<(), Fail> {
+    let graph = graph(rt.alloc(), &[0x8000, 0x800C, 0x8010, 0xFFFF_FFFC])?;
     let rows = [
         (
             cache(1, 16),
             [0x800, 0x800, 0x801, 0x0FFF_FFFF],
             [0, 0, 0, 0],
+        ),
+        (
+            cache(2, 16),
+            [0x800, 0x800, 0x801, 0x0FFF_FFFF],
+            [0, 0, 1, 1],
         ),
         (
             cache(128, 32),
@@ -56,24 +64,17 @@ fn divides_addresses_by_lines_and_lines_among_sets(rt: HostRuntime) {
             [0, 0, 0, 511],
         ),
         (
-            cache(2, 16),
+            cache(512, 16),
             [0x800, 0x800, 0x801, 0x0FFF_FFFF],
-            [0, 0, 1, 1],
+            [0, 0, 1, 511],
         ),
     ];
-    let Ok(graph) = graph(rt.alloc(), &pcs) else {
-        panic!(rt; "memory");
-    };
     for (cache, line, set) in &rows {
-        let Ok(map) = lines(rt.alloc(), &graph, Some(cache)) else {
-            panic!(rt; "memory");
-        };
+        let map = lines(rt.alloc(), &graph, Some(cache))?;
         assert_eq!(rt; map.line.items(), line.as_slice());
         assert_eq!(rt; map.set.items(), set.as_slice());
     }
-    let Ok(map) = lines(rt.alloc(), &graph, None) else {
-        panic!(rt; "memory");
-    };
-    assert_eq!(rt; map.line.items().len(), 0);
-    assert_eq!(rt; map.set.items().len(), 0);
+    let map = lines(rt.alloc(), &graph, None)?;
+    assert_eq!(rt; (map.line.items().len(), map.set.items().len()), (0, 0));
+    Ok(())
 }

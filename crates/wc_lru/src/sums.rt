@@ -2,7 +2,6 @@ ghost use Rattle.std.specs.Prelude.{◌≡◌, ◌+◌, ◌≤◌, ◌<◌, ◌*
 ghost use Rattle.std.specs.Option.{option_map};
 ghost use Rattle.wc_model.specs.Cache.Lru.{cache_fetched, is_hit};
 ghost use Rattle.wc_model.specs.Cache.Timing.{AreCyclesOf, cached_cycles, fetch_cycles, pc_at, timed_step, uncached_cycles};
-ghost use Rattle.wc_model.specs.Program.Graphs.{IsGraph};
 ghost use Rattle.wc_lru.specs.Filled.{cache_in, held_by, held_in};
 ghost use Rattle.wc_lru.specs.Inner.Places.{timed_at};
 
@@ -14,7 +13,7 @@ use wc_model::{Cycles, Graph, Step};
 /// The cycles of the path whose steps stand at these places of the graph, from what `lru` holds; without an `lru`
 /// there is no cache. `None` exactly where the steps don't lead from the graph's start to its exit.
 pub fn cycles(graph: &Graph, path: &[u32], cycles: &Cycles, lru: Option<&mut Lru>) -> Option<u128>
-    requires { IsGraph graph.now }
+    requires { All (λ s. s.source < length graph.now.nodes) graph.now.steps }
     ensures { AreCyclesOf graph.now path.now (cache_in (option_map (λ l. l.now) lru.entry)) cycles.now (held_by (option_map (λ l. l.now) lru.entry)) result }
 {
     if !is_path(graph, path) {
@@ -27,7 +26,7 @@ pub fn cycles(graph: &Graph, path: &[u32], cycles: &Cycles, lru: Option<&mut Lru
 }
 
 fn cached_cycles(graph: &Graph, path: &[u32], cycles: &Cycles, lru: &mut Lru) -> u128
-    requires { IsGraph graph.now }
+    requires { All (λ s. s.source < length graph.now.nodes) graph.now.steps }
     ensures { result ≡ cached_cycles lru.old.cache cycles.now (held_in lru.old) (timed_at graph.now cycles.now path.now) }
 {
     let mut sum = 0;
@@ -59,7 +58,7 @@ fn fetch_cycles(cycles: &Cycles, hit: bool) -> u16
 }
 
 fn uncached_cycles(graph: &Graph, path: &[u32], cycles: &Cycles) -> u128
-    requires { IsGraph graph.now }
+    requires { All (λ s. s.source < length graph.now.nodes) graph.now.steps }
     ensures { result ≡ uncached_cycles (timed_at graph.now cycles.now path.now) }
 {
     let mut sum = 0;
