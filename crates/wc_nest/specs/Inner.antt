@@ -1,4 +1,5 @@
 pub mod Classes
+pub mod Levels
 pub mod Marking
 pub mod Searches
 pub mod Ways
