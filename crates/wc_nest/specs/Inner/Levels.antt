@@ -28,6 +28,15 @@ pub record IsLevel (nodes : ℕ) (Leads : ℕ → Option ℕ → Type 0) (steps 
   pub sound : (w : Way) → Contains ways w → IsWayOf steps w × Leads w.source (Some w.target)
   pub all : (i : ℕ) (s : Step) (q : ℕ) → slice_get steps i ≡ Some s → s.target ≡ Some q → Leads s.source (Some q) → (w : Way) × Contains ways w × (w.place ≡ i)
 
+-- Flags: set at the place of each element that passes a test.
+
+abbrev pub flag_one : {X : Type 0} → (X → Bool) → (X → ℕ) → List Bool → X → List Bool
+flag_one test place flags x = if test x then slice_set flags (place x) true else flags
+
+abbrev pub flag_all : {X : Type 0} → (X → Bool) → (X → ℕ) → List Bool → List X → List Bool
+flag_all test place flags [] = flags
+flag_all test place flags (x ∷ xs) = flag_all test place (flag_one test place flags x) xs
+
 -- Where a class is entered.
 
 abbrev pub number_of : Option Mark → ℕ
@@ -45,11 +54,10 @@ abbrev pub stays : List Mark → Way → Bool
 stays marks w = class_number marks w.source == class_number marks w.target
 
 abbrev pub enter_way : List Mark → List Bool → Way → List Bool
-enter_way marks entered w = if stays marks w then entered else slice_set entered w.target true
+enter_way marks = flag_one (λ w. not (stays marks w)) (λ w. w.target)
 
 abbrev pub enter_ways : List Mark → List Bool → List Way → List Bool
-enter_ways marks entered [] = entered
-enter_ways marks entered (w ∷ ws) = enter_ways marks (enter_way marks entered w) ws
+enter_ways marks = flag_all (λ w. not (stays marks w)) (λ w. w.target)
 
 -- a node that is entered from outside of its class, or the start
 abbrev pub is_entered : List Bool → ℕ → ℕ → Bool
@@ -58,11 +66,10 @@ is_entered entered start p = p == start || slice_index_or entered p false
 -- Which classes have a way inside.
 
 abbrev pub loop_way : List Mark → List Bool → Way → List Bool
-loop_way marks looped w = if stays marks w then slice_set looped (class_number marks w.source) true else looped
+loop_way marks = flag_one (stays marks) (λ w. class_number marks w.source)
 
 abbrev pub loop_ways : List Mark → List Bool → List Way → List Bool
-loop_ways marks looped [] = looped
-loop_ways marks looped (w ∷ ws) = loop_ways marks (loop_way marks looped w) ws
+loop_ways marks = flag_all (stays marks) (λ w. class_number marks w.source)
 
 abbrev pub is_looped : List Mark → List Bool → ℕ → Bool
 is_looped marks looped p = slice_index_or looped (class_number marks p) false
@@ -130,11 +137,10 @@ abbrev pub is_back : List Mark → List Bool → ℕ → Way → Bool
 is_back marks entered start w = stays marks w && is_entered entered start w.target
 
 abbrev pub back_way : List Mark → List Bool → ℕ → List Bool → Way → List Bool
-back_way marks entered start back w = if is_back marks entered start w then slice_set back w.place true else back
+back_way marks entered start = flag_one (is_back marks entered start) (λ w. w.place)
 
 abbrev pub back_ways : List Mark → List Bool → ℕ → List Bool → List Way → List Bool
-back_ways marks entered start back [] = back
-back_ways marks entered start back (w ∷ ws) = back_ways marks entered start (back_way marks entered start back w) ws
+back_ways marks entered start = flag_all (is_back marks entered start) (λ w. w.place)
 
 abbrev pub is_inner : List Mark → List Bool → ℕ → Way → Bool
 is_inner marks entered start w = stays marks w && not (is_entered entered start w.target)
