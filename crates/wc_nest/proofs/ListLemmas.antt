@@ -1,5 +1,5 @@
 -- Rising lists, and elements at the ends of lists.
-use Rattle.std.proofs.Common.{ℕ, zero, suc, ◌≡◌, ◌+◌, ◌-◌, ◌<◌, ◌≤◌, ⊎_elim, List, [], ◌∷◌, ◌++◌, Some, length, get_or, take, drop, refl, sym, ap, subst, ◌∙◌, arith}
+use Rattle.std.proofs.Common.{ℕ, zero, suc, ◌≡◌, ◌+◌, ◌-◌, ◌<◌, ◌≤◌, ⊎_elim, List, [], ◌∷◌, ◌++◌, Some, length, get_or, set, take, drop, refl, sym, ap, subst, ◌∙◌, arith}
 use Rattle.std.specs.List.{AllPairs, Contains, slice_get}
 use Rattle.std.proofs.lemmas.Bool.{cases_lt}
 use Rattle.std.proofs.lemmas.List.{length_push, get_or_append_left, get_or_push}
@@ -71,3 +71,16 @@ pub drop_get : {X : Type 0} (xs : List X) (n i : ℕ) (x : X) → slice_get (dro
 drop_get xs zero i x at = let e : i ≡ 0 + i = omega arith in subst (λ (k : ℕ). slice_get xs k ≡ Some x) e at
 drop_get [] (suc n) i x at = absurd (none-some x at)
 drop_get (y ∷ xs) (suc n) i x at = let e : suc (n + i) ≡ suc n + i = omega arith in subst (λ (k : ℕ). slice_get (y ∷ xs) k ≡ Some x) e (drop_get xs n i x at)
+
+pub rises_head : (x : ℕ) (xs : List ℕ) (y : ℕ) → AllPairs (λ a b. a < b) (x ∷ xs) → Contains xs y → x < y
+rises_head x xs y rises among = let placed : (i : ℕ) × (slice_get xs i ≡ Some y) = get_from_contains xs y among in rises_at (x ∷ xs) 0 (suc placed.0) x y rises refl placed.1 (omega arith)
+
+pub rises_tail : (x : ℕ) (xs : List ℕ) → AllPairs (λ a b. a < b) (x ∷ xs) → AllPairs (λ a b. a < b) xs
+rises_tail x xs rises = λ i j d less within. rises (suc i) (suc j) d (omega arith) (omega arith)
+
+pub set_other : {X : Type 0} (xs : List X) (i j : ℕ) (x : X) → (i ≡ j → ⊥) → slice_get (set xs i x) j ≡ slice_get xs j
+set_other [] i j x other = refl
+set_other (y ∷ xs) zero zero x other = absurd (other refl)
+set_other (y ∷ xs) zero (suc j) x other = refl
+set_other (y ∷ xs) (suc i) zero x other = refl
+set_other (y ∷ xs) (suc i) (suc j) x other = set_other xs i j x (λ (e : i ≡ j). other (ap suc e))

@@ -4,6 +4,10 @@
 #![tactic(auto)]
 
 mod classes;
+mod entering;
+mod heads;
+mod inner;
+mod listing;
 mod marking;
 mod search;
 mod ways;

@@ -1,5 +1,6 @@
-ghost use Rattle.std.specs.Prelude.{◌≡◌, ◌<◌, ℕ, All, length, replicate, IfOk};
-ghost use Rattle.wc_nest.specs.Inner.Marking.{set_all, IsOf};
+ghost use Rattle.std.specs.Prelude.{◌≡◌, ◌<◌, All, length, replicate, IfOk};
+ghost use Rattle.wc_nest.specs.Inner.Levels.{class_number};
+ghost use Rattle.wc_nest.specs.Inner.Marking.{set_all};
 
 use std::alloc::{AllocError, Global};
 
@@ -33,7 +34,7 @@ pub fn new_list<T: Copy>(alloc: Global, count: usize, value: T) -> Result<Vec<T>
 // The number of a node's class.
 pub fn class_of(marks: &[Mark], node: u32) -> usize
     requires { node < length marks.now }
-    ensures { (c : ℕ) → IsOf marks.now node c → result ≡ c }
+    ensures { result ≡ class_number marks.now node }
 {
     match marks[node as usize] {
         Mark::Done(class) => class,
