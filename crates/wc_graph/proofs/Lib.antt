@@ -4,3 +4,5 @@ pub mod FrameLemmas
 pub mod CodeLemmas
 pub mod ExpandLemmas
 pub mod OpenedLemmas
+pub mod RisingLemmas
+pub mod StatedLemmas

@@ -3,3 +3,5 @@ pub mod Frames
 pub mod Codes
 pub mod Exploring
 pub mod Opened
+pub mod Stated
+pub mod Ways

@@ -7,3 +7,5 @@ mod code;
 mod frames;
 mod interned;
 mod opened;
+mod stated;
+mod ways;
