@@ -1,1 +1,2 @@
+pub mod CeilingLemmas
 pub mod LoopLemmas

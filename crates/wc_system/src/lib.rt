@@ -3,5 +3,6 @@
 //! size of the tableau that solves it.
 #![tactic(auto)]
 
+mod ceiling;
 mod loops;
 mod steps;
