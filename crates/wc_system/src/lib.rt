@@ -4,5 +4,6 @@
 #![tactic(auto)]
 
 mod ceiling;
+mod cells;
 mod loops;
 mod steps;
