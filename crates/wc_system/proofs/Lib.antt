@@ -1,1 +1,3 @@
+pub mod CeilingLemmas
+pub mod CountLemmas
 pub mod LoopLemmas

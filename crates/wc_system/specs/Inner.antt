@@ -1,2 +1,4 @@
+pub mod Capped
+pub mod Counted
 pub mod HeadTables
 pub mod OpenLoops

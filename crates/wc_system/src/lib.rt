@@ -3,5 +3,7 @@
 //! size of the tableau that solves it.
 #![tactic(auto)]
 
+mod ceiling;
+mod cells;
 mod loops;
 mod steps;
