@@ -283,31 +283,26 @@ found_small (Err f) at is = absurd (cc)
 image_bounded : (image : Image) → Bounded (names_of image)
 image_bounded image s at is = found_small (find_of image s) at is
 
--- what a text gives from its first token on, under the names of an image
-abbrev Given : Wanted → Image → Names → List ℕ → List Placed → Answer → Type 0
-Given wanted image names text ts given = (names ≡ names_of image) × (ts ≡ placed_tokens text) × (answer names (later_of wanted) (first_of wanted) [] ts ≡ given)
+outcome_of : (wanted : Wanted) (image : Image) (text : List ℕ) (given : Answer) → answer (names_of image) (later_of wanted) (first_of wanted) [] (placed_tokens text) ≡ given
+    → Outcome wanted (names_of image) (placed_tokens text) given
+outcome_of wanted image text given is =
+    subst (Outcome wanted (names_of image) (placed_tokens text)) is (outcome wanted (names_of image) (image_bounded image) (placed_tokens text) (tokens_ended text 0 0))
 
-outcome_of : (wanted : Wanted) (image : Image) (names : Names) (text : List ℕ) (ts : List Placed) (given : Answer) → Given wanted image names text ts given → Outcome wanted (names_of image) (placed_tokens text) given
-outcome_of wanted image names text ts given (same_names, same, is) =
-    let whole : answer (names_of image) (later_of wanted) (first_of wanted) [] (placed_tokens text) ≡ given =
-    ap (λ (n : Names). answer n (later_of wanted) (first_of wanted) [] (placed_tokens text)) (sym same_names) ∙ ap (answer names (later_of wanted) (first_of wanted) []) (sym same) ∙ is in
-    subst (Outcome wanted (names_of image) (placed_tokens text)) whole (outcome wanted (names_of image) (image_bounded image) (placed_tokens text) (tokens_ended text 0 0))
+pub reads_whole : (wanted : Wanted) (image : Image) (text : List ℕ) (fs : List Fact) → answer (names_of image) (later_of wanted) (first_of wanted) [] (placed_tokens text) ≡ Ok fs
+    → IsWhole wanted (names_of image) (tokens_of (placed_tokens text)) fs
+reads_whole wanted image text fs is = outcome_of wanted image text (Ok fs) is
 
-pub reads_whole : (wanted : Wanted) (image : Image) (names : Names) (text : List ℕ) (ts : List Placed) (fs : List Fact) → names ≡ names_of image → ts ≡ placed_tokens text
-    → answer names (later_of wanted) (first_of wanted) [] ts ≡ Ok fs → IsWhole wanted (names_of image) (tokens_of (placed_tokens text)) fs
-reads_whole wanted image names text ts fs same_names same is = outcome_of wanted image names text ts (Ok fs) (same_names, same, is)
-
-pub refuses : {X : Type 0} (wanted : Wanted) (image : Image) (names : Names) (text : List ℕ) (ts : List Placed) (stop : Stop) (k : X → Answer) → names ≡ names_of image → ts ≡ placed_tokens text
-    → Goes {X = X} (Err stop) (answer names (later_of wanted) (first_of wanted) [] ts) k → Refuses wanted (names_of image) text (trouble_of text stop)
-refuses wanted image names text ts (Memory e) k same_names same goes = tt
-refuses wanted image names text ts (Bad at) k same_names same goes =
-    let (front, t, behind, tokens, begins, none, cause) = outcome_of wanted image names text ts (Err (Bad at)) (same_names, same, goes) in
+pub refuses : {X : Type 0} (wanted : Wanted) (image : Image) (text : List ℕ) (stop : Stop) (k : X → Answer)
+    → Goes {X = X} (Err stop) (answer (names_of image) (later_of wanted) (first_of wanted) [] (placed_tokens text)) k → Refuses wanted (names_of image) text (trouble_of text stop)
+refuses wanted image text (Memory e) k goes = tt
+refuses wanted image text (Bad at) k goes =
+    let (front, t, behind, tokens, begins, none, cause) = outcome_of wanted image text (Err (Bad at)) goes in
     record { front = front; token = t; place = at; behind = behind; tokens = tokens; right = begins; wrong = none; fault_of = (refl, cause) }
-refuses wanted image names text ts (Unknown at) k same_names same goes =
-    let (front, t, behind, tokens, begins, none, cause) = outcome_of wanted image names text ts (Err (Unknown at)) (same_names, same, goes) in
+refuses wanted image text (Unknown at) k goes =
+    let (front, t, behind, tokens, begins, none, cause) = outcome_of wanted image text (Err (Unknown at)) goes in
     record { front = front; token = t; place = at; behind = behind; tokens = tokens; right = begins; wrong = none; fault_of = (refl, cause) }
 
-pub facts_stated : (wanted : Wanted) (image : Image) (names : Names) (text : List ℕ) (ts : List Placed) (fs : List Fact) → names ≡ names_of image → ts ≡ placed_tokens text
-    → answer names (later_of wanted) (first_of wanted) [] ts ≡ Ok fs → AllByRecursion IsStated fs
-facts_stated wanted image names text ts fs same_names same is =
-    text_stated (names_of image) (image_bounded image) (tokens_of (placed_tokens text)) fs (reads_whole wanted image names text ts fs same_names same is).0 (tokens_sound text 0 0)
+pub facts_stated : (wanted : Wanted) (image : Image) (text : List ℕ) (fs : List Fact) → answer (names_of image) (later_of wanted) (first_of wanted) [] (placed_tokens text) ≡ Ok fs
+    → AllByRecursion IsStated fs
+facts_stated wanted image text fs is =
+    text_stated (names_of image) (image_bounded image) (tokens_of (placed_tokens text)) fs (reads_whole wanted image text fs is).0 (tokens_sound text 0 0)

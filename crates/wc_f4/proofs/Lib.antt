@@ -3,6 +3,7 @@ pub mod Completions
 pub mod FirstWrong
 pub mod GivenBack
 pub mod GrammarLemmas
+pub mod NameOrderLemmas
 pub mod ParsingLemmas
 pub mod PrintedFacts
 pub mod PrintedTokens

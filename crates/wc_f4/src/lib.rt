@@ -4,7 +4,9 @@
 mod addresses;
 mod branchings;
 mod facts;
+mod finding;
 mod lookups;
+mod name_order;
 mod pieces;
 mod printing;
 mod readers;

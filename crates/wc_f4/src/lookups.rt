@@ -1,29 +1,16 @@
-ghost use Rattle.std.specs.Prelude.{◌≡◌, IfOk};
-ghost use Rattle.wc_f4.specs.Views.{known};
+ghost use Rattle.std.specs.Option.{ForSome};
+ghost use Rattle.wc_f4.specs.NameOrder.{IsNameOrder};
 
-use std::alloc::AllocError;
-use wc_base::Addr;
-use wc_elf::find;
-use wc_model::Image;
+use std::alloc::Global;
+use wc_model::{Image, Name};
 
-/// The names of an image.
+/// The names of an image. The first one that is asked for is found in the table; later ones in the order of
+/// names, which is made once.
 #[derive(Drop)]
 pub struct Lookup<'a> {
-    image: &'a Image,
-}
-
-impl<'a> Lookup<'a> {
-    pub fn new(image: &'a Image) -> Lookup<'a>
-        ensures { result.image.now ≡ image.now }
-    {
-        Lookup { image }
-    }
-
-    /// The address that a name in a text stands for.
-    pub fn find(&mut self, name: &[u8]) -> Result<Option<Addr>, AllocError>
-        ensures found { IfOk result (λ at. at ≡ known self.old name.now) }
-        ensures same { self.new.image.now ≡ self.old.image.now }
-    {
-        Ok(find(self.image, name).ok())
-    }
+    pub alloc: Global,
+    pub image: &'a Image,
+    pub is_asked: bool,
+    pub order: Option<Vec<Name>>,
+    ghost ordered: { ForSome order (λ v. IsNameOrder image.now.bytes image.now.names v.items) },
 }

@@ -76,6 +76,22 @@ fn one_fact(alloc: Global, reader: &mut Reader, names: &mut Lookup) -> Result<Fa
     }
 }
 
+fn facts_of(alloc: Global, text: &[u8], image: &Image) -> Result<Vec<Fact>, Stop>
+    ensures { Goes result (answer (names_of image.now) start start [] (placed_tokens text.now)) (λ facts. Ok facts.items) }
+{
+    let mut reader = Reader::new(text);
+    let mut names = Lookup::new(alloc, image);
+    all_facts(alloc, &mut reader, &mut names)
+}
+
+fn fact_of(alloc: Global, text: &[u8], image: &Image) -> Result<Fact, Stop>
+    ensures { Goes result (answer (names_of image.now) finish first [] (placed_tokens text.now)) (λ fact. Ok (fact ∷ [])) }
+{
+    let mut reader = Reader::new(text);
+    let mut names = Lookup::new(alloc, image);
+    one_fact(alloc, &mut reader, &mut names)
+}
+
 /// The facts that a text states. Names in addresses are those of the image. The fault is that of the first token
 /// that is wrong, with its line from 1: `UnknownLabel` where it is the name of an address that `find` refuses, else
 /// `BadFact`.
@@ -84,9 +100,7 @@ pub fn read_facts(alloc: Global, text: &[u8], image: &Image) -> Result<Vec<Fact>
     ensures only { (facts : _) → IsWhole any (names_of image.now) (tokens_of (placed_tokens text.now)) facts → GivesBack facts (map_value (λ v. v.items) result) }
     ensures stated { IfOk result (λ facts. All IsStated facts.items) }
 {
-    let mut reader = Reader::new(text);
-    let mut names = Lookup::new(image);
-    match all_facts(alloc, &mut reader, &mut names) {
+    match facts_of(alloc, text, image) {
         Ok(facts) => Ok(facts),
         Err(stop) => Err(trouble_of(text, stop)),
     }
@@ -97,9 +111,7 @@ pub fn read_one(alloc: Global, text: &[u8], image: &Image) -> Result<Fact, Troub
     ensures read { ReadsOne (names_of image.now) text.now result }
     ensures stated { IfOk result IsStated }
 {
-    let mut reader = Reader::new(text);
-    let mut names = Lookup::new(image);
-    match one_fact(alloc, &mut reader, &mut names) {
+    match fact_of(alloc, text, image) {
         Ok(fact) => Ok(fact),
         Err(stop) => Err(trouble_of(text, stop)),
     }
