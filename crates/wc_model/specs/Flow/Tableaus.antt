@@ -120,10 +120,10 @@ start_with system columns slacks hs costs sums =
       shape = shape_of columns slacks (length hs);
       first =
           tableau
-            (range_with_len (columns + slacks) (length hs))
-            (whole_rows (length hs) 0 hs)
-            (cost_row slacks (length hs) costs)
-            (goal_start (length hs) (take (columns + slacks) sums) (get_or sums (columns + slacks) (pos 0) ∷ []));
+          (range_with_len (columns + slacks) (length hs))
+          (whole_rows (length hs) 0 hs)
+          (cost_row slacks (length hs) costs)
+          (goal_start (length hs) (take (columns + slacks) sums) (get_or sums (columns + slacks) (pos 0) ∷ []));
       negated = map (λ h. h.negated) hs;
     }
 

@@ -25,11 +25,11 @@ CostsOf inputs graph (Err fault) = ⊥
 abbrev pub ChainResult : Setting → List ℕ → Result ℕ Fault → Type 0
 ChainResult inputs name =
     After (GraphOf inputs name) (λ graph.
-      After (NestOf graph) (λ nest.
-        After (BoundsOf inputs graph nest) (λ bounds.
-          After (CostsOf inputs graph) (λ costs.
-            After (SystemOf inputs graph nest bounds costs) (λ system.
-              After (SolutionOf system) (λ solution. BoundOf system))))))
+    After (NestOf graph) (λ nest.
+    After (BoundsOf inputs graph nest) (λ bounds.
+    After (CostsOf inputs graph) (λ costs.
+    After (SystemOf inputs graph nest bounds costs) (λ system.
+    After (SolutionOf system) (λ solution. BoundOf system))))))
 
 -- an outcome of a name; want of memory is none of the chain's
 abbrev pub chain : Setting → List ℕ → Outcome → Type 0
