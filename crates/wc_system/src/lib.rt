@@ -5,5 +5,8 @@
 
 mod ceiling;
 mod cells;
+mod contexts;
+mod limits;
 mod loops;
 mod steps;
+mod terms;
