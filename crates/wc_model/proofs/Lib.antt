@@ -5,9 +5,11 @@ pub mod Leaving
 pub mod Orders
 pub mod Places
 pub mod Replays
+pub mod RestLemmas
 pub mod Searching
 pub mod Sharing
 pub mod Starting
 pub mod SteeringLemmas
+pub mod StepLemmas
 pub mod Untouched
 pub mod WorkedRows

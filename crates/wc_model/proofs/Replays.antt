@@ -1,5 +1,5 @@
 -- A legal history grows by one entry at a time.
-use Rattle.std.proofs.Common.{◌≡◌, ℕ, ◌+◌, ◌≤◌, List, [], ◌∷◌, ◌++◌, length, take, drop, Option, Some, refl, sym, ap, ◌∙◌, append_assoc, arith, subst, suc, if◌then◌else◌}
+use Rattle.std.proofs.Common.{◌≡◌, ℕ, ◌+◌, ◌≤◌, List, [], ◌∷◌, ◌++◌, length, take, drop, Option, None, Some, refl, sym, ap, ◌∙◌, append_assoc, arith, subst, suc, if◌then◌else◌}
 use Rattle.std.proofs.lemmas.List.{drop-append-le, take-append-le, append-nil, length-map, length-take}
 use Rattle.std.proofs.lemmas.List.Concat.{flat_map-append}
 use Rattle.wc_model.specs.declared.elf_image.Image.{Image}
@@ -15,6 +15,27 @@ use Rattle.wc_model.specs.Workspace.States.{Opening, State, start}
 pub replay-append : (o : Opening) (st : Option State) (es fs : List Entry) → replay o st (es ++ fs) ≡ replay o (replay o st es) fs
 replay-append o st [] fs = refl
 replay-append o st (e ∷ es) fs = replay-append o (stepped o st e) es fs
+
+-- What each step keeps, a whole replay keeps.
+
+stopped : (o : Opening) (es : List Entry) → replay o None es ≡ None
+stopped o [] = refl
+stopped o (e ∷ es) = stopped o es
+
+some_same : {A : Type 0} (a b : A) → Some a ≡ Some b → a ≡ b
+some_same a b same = cc
+
+kept_case : (o : Opening) (P : State → Type 0) (es : List Entry) (last : State) (next : Option State)
+    → ((new : State) → next ≡ Some new → P new) → ((new : State) → P new → replay o (Some new) es ≡ Some last → P last)
+    → replay o next es ≡ Some last → P last
+kept_case o P es last None this later goes = absurd (let none = sym (stopped o es) ∙ goes in cc)
+kept_case o P es last (Some new) this later goes = later new (this new refl) goes
+
+pub throughout : (o : Opening) (P : State → Type 0) → ((st new : State) (e : Entry) → step o st e ≡ Some new → P st → P new)
+    → (es : List Entry) (st last : State) → P st → replay o (Some st) es ≡ Some last → P last
+throughout o P keeps [] st last holds goes = subst P (some_same st last goes) holds
+throughout o P keeps (e ∷ es) st last holds goes =
+    kept_case o P es last (step o st e) (λ new goes. keeps st new e goes holds) (λ new. throughout o P keeps es new last) goes
 
 pub edits_of-append : (es fs : List Entry) → edits_of (es ++ fs) ≡ edits_of es ++ edits_of fs
 edits_of-append es fs = flat_map-append edit_of es fs

@@ -1,7 +1,7 @@
 -- A legal history of a shared workspace, as the replay of a list of entries that knows no values, locks or waiting.
 use Rattle.std.specs.Prelude.{ℕ, ◌+◌, if◌then◌else◌, Bool, true, false, not, ◌&&◌, ◌==◌, List, [], ◌∷◌, ◌++◌, take, drop, map, filter, length, Option, None, Some, ◌≡◌, IsSome, is_none}
 use Rattle.std.specs.List.{before_first, list_all}
-use Rattle.std.specs.Option.{option_and_then}
+use Rattle.std.specs.Option.{option_and_then, option_map}
 use Rattle.wc_model.specs.declared.elf_image.Image.{Image}
 use Rattle.wc_model.specs.declared.entries.End.{End}
 use Rattle.wc_model.specs.declared.entries.End.TheVariants.{Kept, Dropped, Memory}
@@ -101,18 +101,17 @@ may_start o st session key ask =
 abbrev pub taken : Opening → State → Ask → List ℕ
 taken o st ask = filter (is_stored o st ask) (order_of o.kinds)
 
-abbrev pub after_start : Opening → State → ℕ → Key → Ask → Option ℕ → Option State
-after_start o st session key ask None = None
-after_start o st session key ask (Some runs) =
-    Some (record st {
+abbrev pub after_start : Opening → State → ℕ → Key → Ask → ℕ → State
+after_start o st session key ask runs =
+    record st {
       home = with_home key.kind (all_but_last (home_of key.kind st.home)) st.home;
       out = st.out ++ record { session = session; key = key; runs = runs } ∷ [];
       asks = with_ask session (Some (record ask { kinds = ask.kinds ++ taken o st ask })) st.asks;
-    })
+    }
 
 abbrev pub start_step : Opening → State → ℕ → Key → Ask → Option State
 start_step o st session key ask =
-    if may_start o st session key ask then after_start o st session key ask (last_of (home_of key.kind st.home)) else None
+    if may_start o st session key ask then option_map (after_start o st session key ask) (last_of (home_of key.kind st.home)) else None
 
 -- A finish of the ask's run that is out. A value is kept exactly where no edit since the ask's count touched its
 -- closure.
