@@ -1,5 +1,5 @@
 -- What a step of the replay says of the state that it finds, and what it leaves.
-use Rattle.std.proofs.Common.{◌≡◌, ℕ, Bool, true, false, List, Option, None, Some, refl, ap, if◌then◌else◌}
+use Rattle.std.proofs.Common.{◌≡◌, ℕ, Bool, true, false, List, Option, None, Some, refl, if◌then◌else◌}
 use Rattle.std.specs.Option.{option_map, option_and_then}
 use Rattle.wc_model.specs.declared.entries.End.{End}
 use Rattle.wc_model.specs.declared.entries.Entry.TheVariants.{Start, Finish, Answer}
