@@ -6,18 +6,12 @@ use Rattle.wc_model.specs.Workspace.Edits.{Setting}
 use Rattle.wc_model.specs.Workspace.History.{state_after, bound_kind}
 use Rattle.wc_model.specs.Workspace.States.{Opening, State, Ask, ask_at, with_ask, own_run, is_free, is_session, stamp_at}
 use Rattle.wc_model.proofs.Sharing.{asked_other, LeavesOthers, open_other, inputs_later, stamp_later}
+use Rattle.wc_model.proofs.StepLemmas.{if_some, some_same}
 use Rattle.wc_core.specs.Answers.{KeepsOthers}
 use Rattle.wc_core.specs.Features.{Each}
 use Rattle.wc_core.specs.Fits.{IsOpen}
 use Rattle.wc_core.specs.Holds.{ask_needs, asks_need, entries_needed}
 use Rattle.wc_core.specs.Views.{Known, KnownTicket, ask_of, ask_with}
-
-pub some_same : {A : Type 0} (a b : A) → Some a ≡ Some b → a ≡ b
-some_same a b p = cc
-
-pub if_some : {A : Type 0} (b : Bool) (x : Option A) (a : A) → (if b then x else None) ≡ Some a → (b ≡ true) × (x ≡ Some a)
-if_some true x a p = (refl, p)
-if_some false x a p = cc
 
 pub and_left : (a b : Bool) → (a && b) ≡ true → a ≡ true
 and_left true b p = refl

@@ -1,7 +1,7 @@
 -- What each entry does to the replay while there is one kind and one work.
 use Rattle.std.proofs.Common.{◌≡◌, ℕ, ◌+◌, Bool, true, false, not, ◌&&◌, ◌||◌, ◌==◌, List, [], ◌∷◌, ◌++◌, length, Option, None, Some, is_none, refl, ap, ◌∙◌, if◌then◌else◌}
 use Rattle.std.proofs.lemmas.List.{append-nil}
-use Rattle.std.specs.Option.{option_and_then}
+use Rattle.std.specs.Option.{option_and_then, option_map}
 use Rattle.wc_model.specs.declared.entries.End.{End}
 use Rattle.wc_model.specs.declared.entries.Entry.TheVariants.{Edit as EditEntry, NoFact, Pin, Start, Finish, Answer, List as ListEntry}
 use Rattle.wc_model.specs.declared.inputs.Edit.{Edit}
@@ -91,7 +91,7 @@ module _ (b : Basis) (st : State) (ask : Ask) (session stamp runs : ℕ)
   step_start =
       ap (option_and_then (start_step (opening_of b) st session key)) asked
       ∙ if_true _ _ allowed
-      ∙ ap (λ hs. after_start (opening_of b) st session key ask (last_of hs)) home
+      ∙ ap (λ hs. option_map (after_start (opening_of b) st session key ask) (last_of hs)) home
       ∙ ap (λ hs. Some (begun_with st ask session stamp runs hs (ask.kinds ++ taken (opening_of b) st ask))) home
       ∙ ap (λ ks. Some (begun_with st ask session stamp runs (runs ∷ []) (ask.kinds ++ ks))) (none_taken (is_stored (opening_of b) st ask bound_kind) unstored)
       ∙ ap (λ ks. Some (begun_with st ask session stamp runs (runs ∷ []) ks)) (append-nil ask.kinds)

@@ -18,7 +18,8 @@ use Rattle.wc_core.specs.Turns.{Turn, answers, starts, waits, next_turn, turn_fo
 use Rattle.wc_core.specs.Views.{Known, KnownTicket, ask_of, ask_with}
 use Rattle.wc_core.proofs.Cores.{known, moved, restock, work_on, core_asked, IsResting}
 use Rattle.wc_core.proofs.Goings.{Goes}
-use Rattle.wc_core.proofs.OpenAsks.{some_same, needed_same, needs_with, needs_at, needs_two, pinned_with, session_within}
+use Rattle.wc_model.proofs.StepLemmas.{some_same}
+use Rattle.wc_core.proofs.OpenAsks.{needed_same, needs_with, needs_at, needs_two, pinned_with, session_within}
 use Rattle.wc_core.proofs.Steps.{step_answer}
 use Rattle.wc_core.proofs.Stored.{same_number, stored_is}
 

@@ -11,6 +11,7 @@ use Rattle.wc_model.specs.Workspace.Closures.{touches_any, last_touch}
 use Rattle.wc_model.specs.Workspace.Edits.{Setting, numbered, edit_of, edits_of, edited, all_edited}
 use Rattle.wc_model.specs.Workspace.History.{Chain, IsRight, EachRight, IsLegal, step, stepped, replay, state_after, opened, opening_entries, opening_entry, opening_facts}
 use Rattle.wc_model.specs.Workspace.States.{Opening, State, start}
+use Rattle.wc_model.proofs.StepLemmas.{some_same}
 
 pub replay-append : (o : Opening) (st : Option State) (es fs : List Entry) → replay o st (es ++ fs) ≡ replay o (replay o st es) fs
 replay-append o st [] fs = refl
@@ -21,9 +22,6 @@ replay-append o st (e ∷ es) fs = replay-append o (stepped o st e) es fs
 stopped : (o : Opening) (es : List Entry) → replay o None es ≡ None
 stopped o [] = refl
 stopped o (e ∷ es) = stopped o es
-
-some_same : {A : Type 0} (a b : A) → Some a ≡ Some b → a ≡ b
-some_same a b same = cc
 
 kept_case : (o : Opening) (P : State → Type 0) (es : List Entry) (last : State) (next : Option State)
     → ((new : State) → next ≡ Some new → P new) → ((new : State) → P new → replay o (Some new) es ≡ Some last → P last)

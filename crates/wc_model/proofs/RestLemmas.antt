@@ -7,7 +7,7 @@ use Rattle.wc_model.specs.Workspace.History.{step, state_after, opened, after_ed
 use Rattle.wc_model.specs.Workspace.States.{Opening, State, Run, Ask, start, ask_at, with_ask, own_run, open_ask, is_free, is_session, same_name}
 use Rattle.wc_model.proofs.Replays.{throughout}
 use Rattle.wc_model.proofs.Sharing.{asked_same, asked_other, run_other, in_other}
-use Rattle.wc_model.proofs.StepLemmas.{allowed, started, finished, answered, IsStart, IsFinish, IsAnswer}
+use Rattle.wc_model.proofs.StepLemmas.{if_some, allowed, started, finished, answered, IsStart, IsFinish, IsAnswer}
 
 abbrev IsQuiet : Opening → State → Type 0
 IsQuiet o st = (s : ℕ) → open_ask o st s ≡ None → own_run s st.out ≡ None
@@ -25,10 +25,6 @@ none_is : {A : Type 0} (x : Option A) → is_none x ≡ true → x ≡ None
 none_is None is = refl
 none_is (Some a) is = cc
 
-open_case : (b : Bool) (x : Option Ask) (ask : Ask) → (if b then x else None) ≡ Some ask → (b ≡ true) × (x ≡ Some ask)
-open_case true x ask is = (refl, is)
-open_case false x ask is = cc
-
 closed_if : (b : Bool) (x : Option Ask) → x ≡ None → (if b then x else None) ≡ None
 closed_if true x is = is
 closed_if false x is = refl
@@ -44,7 +40,7 @@ module _ (o : Opening) (st : State) (session : ℕ) (quiet : IsQuiet o st) where
   goes_on ask new out asked others s closed = by_case (s == session) refl
     where
       here : (is_session o session ≡ true) × (ask_at session st.asks ≡ Some ask)
-      here = open_case (is_session o session) (ask_at session st.asks) ask asked
+      here = if_some (is_session o session) (ask_at session st.asks) ask asked
 
       by_case : (same : Bool) → (s == session) ≡ same → own_run s out ≡ None
       by_case true is =

@@ -14,7 +14,7 @@ use Rattle.wc_model.specs.Workspace.States.{Opening, State, Run, Ask, start, hom
 use Rattle.wc_core.specs.Answers.{RunsNothing, AreRuns}
 use Rattle.wc_core.specs.Features.{Each}
 use Rattle.wc_core.specs.Holds.{bound_alone, plain_opening}
-use Rattle.wc_core.proofs.OpenAsks.{some_same, if_some}
+use Rattle.wc_model.proofs.StepLemmas.{some_same, if_some}
 use Rattle.wcet.specs.ReportText.{IsOfKinds}
 use Rattle.wcet.specs.Starts.{starts_of, all_starts, bound_runs}
 

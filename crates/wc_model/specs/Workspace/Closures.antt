@@ -28,7 +28,8 @@ reads_of kinds kind = option_map_or (λ d. d.reads) (describe_of kinds kind) []
 -- The parts that a kind reads, or that those kinds read which it requires through at most `links` others.
 abbrev pub reads_within : List Describe → ℕ → ℕ → List Part
 reads_within kinds zero kind = reads_of kinds kind
-reads_within kinds (suc links) kind = reads_of kinds kind ++ flat_map (reads_within kinds links) (requires_of kinds kind)
+reads_within kinds (suc links) kind =
+    reads_of kinds kind ++ flat_map (reads_within kinds links) (requires_of kinds kind)
 
 -- The closure of a kind: the parts that it reads, or that any kind reads that it requires, directly or through
 -- others. Among so many kinds no chain of requirements without a repeat is longer than their number.
@@ -59,7 +60,9 @@ lesser k (Some least) = if nat_lt k least then Some k else Some least
 abbrev pub next_available : List Describe → List ℕ → Option ℕ
 next_available [] placed = None
 next_available (d ∷ ds) placed =
-    if not (has_kind d.provides placed) && has_all d.requires_ placed then lesser d.provides (next_available ds placed) else next_available ds placed
+    if not (has_kind d.provides placed) && has_all d.requires_ placed
+    then lesser d.provides (next_available ds placed)
+    else next_available ds placed
 
 abbrev pub placed_next : List ℕ → Option ℕ → List ℕ
 placed_next placed None = placed

@@ -74,9 +74,11 @@ may_pin o st session at =
     is_free o st session
     && at == count_of st
 
+abbrev pub new_ask : List ℕ → ℕ → Ask
+new_ask name at = record { name = name; at = at; kinds = []; memory = false }
+
 abbrev pub after_pin : State → ℕ → List ℕ → State
-after_pin st session name =
-    record st { asks = with_ask session (Some (record { name = name; at = count_of st; kinds = []; memory = false })) st.asks }
+after_pin st session name = record st { asks = with_ask session (Some (new_ask name (count_of st))) st.asks }
 
 -- A start: of the ask's own name and stamp, while no run of the ask is out and none of them found no memory. The kind
 -- and the bound are out of reach, and each kind before it in the registry's order is within reach. No run of the key
@@ -111,7 +113,9 @@ after_start o st session key ask runs =
 
 abbrev pub start_step : Opening → State → ℕ → Key → Ask → Option State
 start_step o st session key ask =
-    if may_start o st session key ask then option_map (after_start o st session key ask) (last_of (home_of key.kind st.home)) else None
+    if may_start o st session key ask
+    then option_map (after_start o st session key ask) (last_of (home_of key.kind st.home))
+    else None
 
 -- A finish of the ask's run that is out. A value is kept exactly where no edit since the ask's count touched its
 -- closure.
@@ -155,7 +159,10 @@ is_memory NoMemory = true
 is_memory _ = false
 
 abbrev pub right_outcome : Opening → State → Ask → Outcome → Bool
-right_outcome o st ask outcome = if ask.memory then is_memory outcome else not (is_memory outcome) && within_reach o st ask bound_kind
+right_outcome o st ask outcome =
+    if ask.memory
+    then is_memory outcome
+    else not (is_memory outcome) && within_reach o st ask bound_kind
 
 abbrev pub may_answer : Opening → State → ℕ → List ℕ → ℕ → Outcome → Ask → Bool
 may_answer o st session name at outcome ask =
@@ -179,6 +186,9 @@ allow legal st = if legal then Some st else None
 abbrev pub for_ask : Opening → State → ℕ → (Ask → Option State) → Option State
 for_ask o st session next = option_and_then next (open_ask o st session)
 
+abbrev pub for_run : State → ℕ → (Run → Option State) → Option State
+for_run st session next = option_and_then next (own_run session st.out)
+
 abbrev pub key_with : ℕ → List ℕ → ℕ → Key
 key_with kind name stamp = record { kind = kind; name = name; stamp = stamp }
 
@@ -188,7 +198,7 @@ step o st (NoFact session number at) = allow (may_refuse o st session number at)
 step o st (Pin session name at) = allow (may_pin o st session at) (after_pin st session name)
 step o st (Start session kind name stamp) = for_ask o st session (start_step o st session (key_with kind name stamp))
 step o st (Finish session kind name stamp end) =
-    for_ask o st session (λ ask. option_and_then (finish_step o st session (key_with kind name stamp) end ask) (own_run session st.out))
+    for_ask o st session (λ ask. for_run st session (finish_step o st session (key_with kind name stamp) end ask))
 step o st (Answer session name at outcome) = for_ask o st session (answer_step o st session name at outcome)
 step o st (ListEntry session at) = allow (may_list o st session at) st
 
