@@ -12,8 +12,18 @@ use Rattle.wc_model.specs.declared.machine.Hardware.{Hardware}
 abbrev pub default_cycles : Cycles
 default_cycles =
     record {
-      alu = 1; mul = 1; div = 1; load = 1; store = 1; multi = 1; branch = 1; system = 1;
-      taken = 0; per_register = 0; hit = 0; miss = 0;
+      alu = 1;
+      mul = 1;
+      div = 1;
+      load = 1;
+      store = 1;
+      multi = 1;
+      branch = 1;
+      system = 1;
+      taken = 0;
+      per_register = 0;
+      hit = 0;
+      miss = 0;
       hit_is_least = lit≤ tt;
     }
 
