@@ -23,9 +23,9 @@ waits_set waiting q within = get_or-set_same waiting q true false within
 waits_kept : (waiting : List Bool) (q p : ℕ) → Waits waiting p → Waits (set waiting q true) p
 waits_kept waiting q p waits = ⊎_elim
     (λ (same : p ≡ q). ⊎_elim
-        (λ (within : q < length waiting). subst (λ (n : ℕ). Waits (set waiting q true) n) (sym same) (waits_set waiting q within))
-        (λ (past : length waiting ≤ q). absurd (false≢true (sym (get_or_past waiting q false past) ∙ ap (λ (n : ℕ). get_or waiting n false) (sym same) ∙ waits)))
-        (cases_lt q (length waiting)))
+    (λ (within : q < length waiting). subst (λ (n : ℕ). Waits (set waiting q true) n) (sym same) (waits_set waiting q within))
+    (λ (past : length waiting ≤ q). absurd (false≢true (sym (get_or_past waiting q false past) ∙ ap (λ (n : ℕ). get_or waiting n false) (sym same) ∙ waits)))
+    (cases_lt q (length waiting)))
     (λ (apart : p ≢ q). get_or-set_other waiting q p true false apart ∙ waits)
     (cases_eq p q)
 
@@ -98,26 +98,32 @@ module _ {L State : Type 0} (state : L → State) (shape lines rank : L → ℕ)
   rise : (old : Option L) (brought : L) (new : Option L) (changed : Bool) → IsRaised state shape lines rank precise old brought new changed → (b : L) × (new ≡ Some b) × Rise old brought b changed
   rise None brought new changed raised =
       let b : L = raised.0 in
-      let copy = raised.2 in
-      (b, raised.1, record {
-        same = λ first _ alike. (copy.alike.0 ∙ alike.0, copy.alike.1 ∙ alike.1);
-        above = subst (λ (x : State). precise (state brought) x) (sym copy.same_state) (refl_of (state brought));
-        grown = tt;
-        least = λ c _ less. subst (λ (x : State). precise x c) (sym copy.same_state) less;
-        unchanged = λ no. absurd (true≢false (sym raised.3 ∙ no));
-        falls = λ _. copy.small;
-      })
+      let copy = raised.2 in (
+        b,
+        raised.1,
+        record {
+          same = λ first _ alike. (copy.alike.0 ∙ alike.0, copy.alike.1 ∙ alike.1);
+          above = subst (λ (x : State). precise (state brought) x) (sym copy.same_state) (refl_of (state brought));
+          grown = tt;
+          least = λ c _ less. subst (λ (x : State). precise x c) (sym copy.same_state) less;
+          unchanged = λ no. absurd (true≢false (sym raised.3 ∙ no));
+          falls = λ _. copy.small;
+        },
+      )
   rise (Some a) brought new changed raised =
       let b : L = raised.0 in
-      let join = raised.2 in
-      (b, raised.1, record {
-        same = λ first alike _. (join.alike.0 ∙ alike.0, join.alike.1 ∙ alike.1);
-        above = join.above_other;
-        grown = join.above_self;
-        least = join.least;
-        unchanged = λ no. ap Some (sym (join.unchanged no));
-        falls = join.falls;
-      })
+      let join = raised.2 in (
+        b,
+        raised.1,
+        record {
+          same = λ first alike _. (join.alike.0 ∙ alike.0, join.alike.1 ∙ alike.1);
+          above = join.above_other;
+          grown = join.above_self;
+          least = join.least;
+          unchanged = λ no. ap Some (sym (join.unchanged no));
+          falls = join.falls;
+        },
+      )
 
   -- What a step that was followed to `q` changes.
   pub record Grows (q : ℕ) (brought : L) (states : List (Option L)) (waiting : List Bool) (new_states : List (Option L)) (new_waiting : List Bool) : Type 0 where
@@ -187,7 +193,7 @@ module _ {L State : Type 0} (state : L → State) (shape lines rank : L → ℕ)
             (cases_eq p q);
         least = λ other below less p a is. ⊎_elim
             (λ (same : p ≡ q). subst (λ (x : L). precise (state x) (other p)) (same_value p a same is)
-                (subst (λ (n : ℕ). precise (state b) (other n)) (sym same) (r.least (other q) (if_there (λ x. precise (state x) (other q)) (state_at states q) (below q)) less)))
+            (subst (λ (n : ℕ). precise (state b) (other n)) (sym same) (r.least (other q) (if_there (λ x. precise (state x) (other q)) (state_at states q) (below q)) less)))
             (λ (apart : p ≢ q). below p a (sym (elsewhere p apart) ∙ is))
             (cases_eq p q);
         work = less_work states waiting q b within flagged (r.falls refl);
@@ -226,26 +232,26 @@ module _ {L State : Type 0} (state : L → State) (shape lines rank : L → ℕ)
         let begun = old.begun in
         let fits : Alike shape lines problem.first brought = alike_both problem.first begun.0 brought (old.same problem.start begun.0 begun.1) (alike problem.start begun.0 begun.1) in
         let closed : (t : Step) (r : ℕ) (a : L) → Contains problem.steps t → t.target ≡ Some r → state_at new_states t.source ≡ Some a
-                → Waits new_waiting t.source ⊎ (((t.source ≡ node) × Contains own t) ⊎ IsAbove state precise new_states (after_of state shape lines precise accessed problem t.source a) r) = λ t r a among target there.
-            ⊎_elim (λ waits. inl waits) (λ (was : state_at states t.source ≡ Some a). ⊎_elim
-                (λ (waits : Waits waiting t.source). inl (grows.kept t.source waits))
-                (λ later. ⊎_elim
-                    (λ (left : (t.source ≡ node) × Contains (s ∷ own) t). ⊎_elim
-                        (λ (same : s ≡ t). ⊎_elim
-                            (λ (waits : Waits waiting node). inl (grows.kept t.source (subst (λ (n : ℕ). Waits waiting n) (sym left.0) waits)))
-                            (λ (held : (b : L) × (state_at states node ≡ Some b) × (after_of state shape lines precise accessed problem node b ≡ state brought)).
-                                let value : held.0 ≡ a = same_Some held.0 a (sym held.1 ∙ ap (state_at states) (sym left.0) ∙ was) in
-                                let at : q ≡ r = same_Some q r (sym to ∙ ap (λ (x : Step). x.target) same ∙ target) in
-                                let is : state brought ≡ after_of state shape lines precise accessed problem t.source a = sym held.2 ∙ ap (after_of state shape lines precise accessed problem node) value ∙ ap (λ (n : ℕ). after_of state shape lines precise accessed problem n a) (sym left.0) in
-                                inr (inr (subst (λ (n : ℕ). IsAbove state precise new_states (after_of state shape lines precise accessed problem t.source a) n) at
-                                    (subst (λ (x : State). IsAbove state precise new_states x q) is grows.reached))))
-                            visit.carried)
-                        (λ (other : Contains own t). inr (inl (left.0, other)))
-                        (contains_cons s own t left.1))
-                    (λ above. inr (inr (above_through new_states r (after_of state shape lines precise accessed problem t.source a) above.0 above.2 (grows.grown r above.0 above.1))))
-                    later)
-                (old.closed t r a among target was))
-            (grows.stays t.source a there) in
+        → Waits new_waiting t.source ⊎ (((t.source ≡ node) × Contains own t) ⊎ IsAbove state precise new_states (after_of state shape lines precise accessed problem t.source a) r) = λ t r a among target there.
+        ⊎_elim (λ waits. inl waits) (λ (was : state_at states t.source ≡ Some a). ⊎_elim
+        (λ (waits : Waits waiting t.source). inl (grows.kept t.source waits))
+        (λ later. ⊎_elim
+        (λ (left : (t.source ≡ node) × Contains (s ∷ own) t). ⊎_elim
+        (λ (same : s ≡ t). ⊎_elim
+        (λ (waits : Waits waiting node). inl (grows.kept t.source (subst (λ (n : ℕ). Waits waiting n) (sym left.0) waits)))
+        (λ (held : (b : L) × (state_at states node ≡ Some b) × (after_of state shape lines precise accessed problem node b ≡ state brought)).
+        let value : held.0 ≡ a = same_Some held.0 a (sym held.1 ∙ ap (state_at states) (sym left.0) ∙ was) in
+        let at : q ≡ r = same_Some q r (sym to ∙ ap (λ (x : Step). x.target) same ∙ target) in
+        let is : state brought ≡ after_of state shape lines precise accessed problem t.source a = sym held.2 ∙ ap (after_of state shape lines precise accessed problem node) value ∙ ap (λ (n : ℕ). after_of state shape lines precise accessed problem n a) (sym left.0) in
+        inr (inr (subst (λ (n : ℕ). IsAbove state precise new_states (after_of state shape lines precise accessed problem t.source a) n) at
+        (subst (λ (x : State). IsAbove state precise new_states x q) is grows.reached))))
+        visit.carried)
+        (λ (other : Contains own t). inr (inl (left.0, other)))
+        (contains_cons s own t left.1))
+        (λ above. inr (inr (above_through new_states r (after_of state shape lines precise accessed problem t.source a) above.0 above.2 (grows.grown r above.0 above.1))))
+        later)
+        (old.closed t r a among target was))
+        (grows.stays t.source a there) in
         record {
           fixing = record {
             counted = grows.counted ∙ old.counted;
@@ -262,11 +268,11 @@ module _ {L State : Type 0} (state : L → State) (shape lines rank : L → ℕ)
           carried = ⊎_elim
               (λ (waits : Waits waiting node). inl (grows.kept node waits))
               (λ (held : (b : L) × (state_at states node ≡ Some b) × (after_of state shape lines precise accessed problem node b ≡ state brought)).
-                  let now = grows.grown node held.0 held.1 in
-                  ⊎_elim
-                  (λ (waits : Waits new_waiting node). inl waits)
-                  (λ (was : state_at states node ≡ Some now.0). inr (now.0, now.1, ap (after_of state shape lines precise accessed problem node) (same_Some now.0 held.0 (sym was ∙ held.1)) ∙ held.2))
-                  (grows.stays node now.0 now.1))
+              let now = grows.grown node held.0 held.1 in
+              ⊎_elim
+              (λ (waits : Waits new_waiting node). inl waits)
+              (λ (was : state_at states node ≡ Some now.0). inr (now.0, now.1, ap (after_of state shape lines precise accessed problem node) (same_Some now.0 held.0 (sym was ∙ held.1)) ∙ held.2))
+              (grows.stays node now.0 now.1))
               visit.carried;
           brings = λ other solves t r among. visit.brings other solves t r (contains_tail s own t among);
         }
@@ -288,12 +294,12 @@ module _ {L State : Type 0} (state : L → State) (shape lines rank : L → ℕ)
             closed = λ t r a among target there. ⊎_elim
                 (λ waits. inl waits)
                 (λ later. ⊎_elim
-                    (λ (left : (t.source ≡ node) × Contains (s ∷ own) t). ⊎_elim
-                        (λ (same : s ≡ t). absurd (none-some r (sym out ∙ ap (λ (x : Step). x.target) same ∙ target)))
-                        (λ (other : Contains own t). inr (inl (left.0, other)))
-                        (contains_cons s own t left.1))
-                    (λ above. inr (inr above))
-                    later)
+                (λ (left : (t.source ≡ node) × Contains (s ∷ own) t). ⊎_elim
+                (λ (same : s ≡ t). absurd (none-some r (sym out ∙ ap (λ (x : Step). x.target) same ∙ target)))
+                (λ (other : Contains own t). inr (inl (left.0, other)))
+                (contains_cons s own t left.1))
+                (λ above. inr (inr above))
+                later)
                 (old.closed t r a among target there);
           };
           carried = visit.carried;
@@ -378,9 +384,9 @@ module _ {L State : Type 0} (state : L → State) (shape lines rank : L → ℕ)
             known = λ p waits. old.known p (waits_off waiting node p within waits).1;
             closed = λ t r a among target there. ⊎_elim
                 (λ (waits : Waits waiting t.source). ⊎_elim
-                    (λ (here : t.source ≡ node). inr (inl (here, at.leave.all t among here)))
-                    (λ (apart : t.source ≢ node). inl (get_or-set_other waiting node t.source false false apart ∙ waits))
-                    (cases_eq t.source node))
+                (λ (here : t.source ≡ node). inr (inl (here, at.leave.all t among here)))
+                (λ (apart : t.source ≢ node). inl (get_or-set_other waiting node t.source false false apart ∙ waits))
+                (cases_eq t.source node))
                 (λ later. ⊎_elim (λ (none : ⊥). absurd none) (λ above. inr (inr above)) later)
                 (old.closed t r a among target there);
           };
@@ -401,7 +407,7 @@ module _ {L State : Type 0} (state : L → State) (shape lines rank : L → ℕ)
         let alike : Alike shape lines problem.first a.0 = fixing.same node a.0 a.1 in
         let within : node < length problem.access = omega (arith, fixing.flagged, waits_within waiting node waits, count) in
         let inside : (s : Step) → Contains own s → IfSome s.target (λ q. q < length states) = λ s among.
-            subst (λ (n : ℕ). IfSome s.target (λ q. q < n)) (sym fixing.counted) (All-contains (λ (t : Step). IfSome t.target (λ q. q < problem.nodes)) problem.steps s targets (leave.inside s among).0) in
+        subst (λ (n : ℕ). IfSome s.target (λ q. q < n)) (sym fixing.counted) (All-contains (λ (t : Step). IfSome t.target (λ q. q < problem.nodes)) problem.steps s targets (leave.inside s among).0) in
         record {
           counted = fixing.flagged ∙ sym fixing.counted;
           waits = waits;
@@ -425,9 +431,9 @@ module _ {L State : Type 0} (state : L → State) (shape lines rank : L → ℕ)
         let flagged : start < length none_waits = omega (arith, length-replicate problem.nodes false) in
         let here : state_at states start ≡ Some problem.first = get_or-set_same nothing start (Some problem.first) None within in
         let only : (p : ℕ) (a : L) → state_at states p ≡ Some a → (p ≡ start) × (a ≡ problem.first) = λ p a there. ⊎_elim
-            (λ (same : p ≡ start). (same, same_Some a problem.first (sym there ∙ ap (state_at states) same ∙ here)))
-            (λ (apart : p ≢ start). absurd (none-some a (sym (nothing_there problem.nodes p) ∙ sym (get_or-set_other nothing start p (Some problem.first) None apart) ∙ there)))
-            (cases_eq p start) in
+        (λ (same : p ≡ start). (same, same_Some a problem.first (sym there ∙ ap (state_at states) same ∙ here)))
+        (λ (apart : p ≢ start). absurd (none-some a (sym (nothing_there problem.nodes p) ∙ sym (get_or-set_other nothing start p (Some problem.first) None apart) ∙ there)))
+        (cases_eq p start) in
         record {
           counted = length-set nothing start (Some problem.first) ∙ length-replicate problem.nodes None;
           flagged = length-set none_waits start true ∙ length-replicate problem.nodes false;

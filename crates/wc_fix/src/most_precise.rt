@@ -24,7 +24,14 @@ pub fn solve<L: Lattice>(
     ensures { IfOk result (λ v. IsSolved L.state L.precise L.accessed (length graph.now.nodes) graph.now.steps access.now graph.now.start (L.state first) v.items) }
 {
     let nodes = graph.nodes.items().len() as u32;
-    solve_steps(alloc, nodes, graph.steps.items(), graph.start, access, first)
+    solve_steps(
+        alloc,
+        nodes,
+        graph.steps.items(),
+        graph.start,
+        access,
+        first,
+    )
 }
 
 /// The same over numbered nodes and the steps between them.
