@@ -6,7 +6,8 @@ use Rattle.wc_model.specs.declared.entries.Entry.{Entry}
 use Rattle.wc_model.specs.Workspace.Closures.{last_touch}
 use Rattle.wc_model.specs.Workspace.Edits.{Setting, bare, all_edited, edits_of, edit_of, AgreeOnAll}
 use Rattle.wc_model.specs.Workspace.Entries.{session_of}
-use Rattle.wc_model.specs.Workspace.History.{Opening, State, Run, Ask, Chain, IsLegal, IsRight, state_after, step, is_free, is_session, own_run, ask_at, inputs_at, count_of, stamp_at, bound_kind}
+use Rattle.wc_model.specs.Workspace.History.{Chain, IsLegal, IsRight, state_after, step, bound_kind}
+use Rattle.wc_model.specs.Workspace.States.{Opening, State, Run, Ask, is_free, is_session, own_run, ask_at, inputs_at, count_of, stamp_at}
 use Rattle.wc_model.proofs.Replays.{kept_snoc, kept_is_legal}
 use Rattle.wc_model.proofs.Sharing.{LeavesOthers}
 use Rattle.wc_model.proofs.Current.{then_from_now, now_from_then}
@@ -15,8 +16,9 @@ use Rattle.wc_core.specs.Answers.{LeavesFree, KeepsOthers, inputs_now}
 use Rattle.wc_core.specs.Features.{Each}
 use Rattle.wc_core.specs.Fits.{FitsTicket, IsOpen, is_settled, names_needed}
 use Rattle.wc_core.specs.Holds.{Basis, Stock, opening_of, all_parts, row_of, asks_need, has_value, AreFeatures, WorkIs, IsCore}
-use Rattle.wc_core.specs.Views.{Known, KnownTicket, ask_of, value_of}
-use Rattle.wc_core.proofs.OpenAsks.{PinnedBy, some_same, if_some, and_left, and_right, session_within, pinned_at, keeps}
+use Rattle.wc_core.specs.Views.{Known, KnownTicket, ask_with, value_of}
+use Rattle.wc_model.proofs.StepLemmas.{some_same, if_some}
+use Rattle.wc_core.proofs.OpenAsks.{PinnedBy, and_left, and_right, session_within, pinned_at, keeps}
 
 abbrev pub known : Basis → List Entry → Known
 known b h = record { opening = opening_of b; history = h }
@@ -119,7 +121,7 @@ work_on o st new d d' long more (Some s) out home later owes asks absent work =
       ask = work.ask;
       asked = asks s work.run work.ask work.out_is work.session_is work.asked;
       needs = work.needs;
-      absent = λ current. absent work.run.name work.run.stamp work.absent current;
+      absent = λ current. absent work.run.key.name work.run.key.stamp work.absent current;
       few = omega (arith, work.few);
       owes = omega (arith, owes, work.owes);
     }
@@ -159,7 +161,7 @@ core_free chain feature b h d session k view core leaves =
 pub record IsAsked {V : Type 0} (feature : ℕ → Setting → List ℕ → V → Type 0) (b : Basis) (st : State) (d : Stock V) (t : KnownTicket V) : Type 0 where
   pub is_open : IsOpen feature (opening_of b) st t
   pub known_ : is_session (opening_of b) t.session ≡ true
-  pub asked : ask_at t.session st.asks ≡ Some (ask_of t)
+  pub asked : ask_at t.session st.asks ≡ Some (ask_with t is_open.kinds)
   pub place : t.session < length st.asks
   pub within : t.at ≤ d.count
 
@@ -168,13 +170,13 @@ pub core_opened : {V : Type 0} (chain : Chain) (feature : ℕ → Setting → Li
 core_opened chain feature b h d t st core same is =
     let I : State → Type 0 = λ x. IsOpen feature (opening_of b) x t in
     let own = subst I same is in
-    let both = if_some (is_session (opening_of b) t.session) (ask_at t.session core.st.asks) (ask_of t) own.ask in
+    let both = if_some (is_session (opening_of b) t.session) (ask_at t.session core.st.asks) (ask_with t own.kinds) own.ask in
     record {
       is_open = own;
       known_ = both.0;
       asked = both.1;
       place = omega (arith, (session_within (opening_of b) t.session both.0).1, core.places);
-      within = pinned_at d.count t.session core.st.asks (ask_of t) core.pinned both.1;
+      within = pinned_at d.count t.session core.st.asks (ask_with t own.kinds) core.pinned both.1;
     }
 
 pub record IsResting {V : Type 0} (feature : ℕ → Setting → List ℕ → V → Type 0) (b : Basis) (st : State) (d : Stock V) (t : KnownTicket V) : Type 0 where

@@ -6,14 +6,15 @@ use Rattle.wc_model.specs.declared.entries.Entry.TheVariants.{Start}
 use Rattle.wc_model.specs.declared.kinds.Describe.{Describe}
 use Rattle.wc_model.specs.Workspace.Closures.{requires_of, has_kind}
 use Rattle.wc_model.specs.Workspace.Edits.{Setting}
-use Rattle.wc_model.specs.Workspace.History.{Opening, State, Run, Ask, Chain, IsLegal, is_session, own_run, ask_at, with_home, home_of, is_stored, bound_kind}
+use Rattle.wc_model.specs.Workspace.History.{Chain, IsLegal, key_with, bound_kind}
+use Rattle.wc_model.specs.Workspace.States.{Opening, State, Run, Ask, is_session, own_run, ask_at, with_home, home_of, is_stored}
 use Rattle.wc_model.proofs.Sharing.{asked_same, asked_other, length-with_ask, run_other, LeavesOthers}
 use Rattle.wc_core.specs.Answers.{KeepsOthers}
 use Rattle.wc_core.specs.Features.{Each}
 use Rattle.wc_core.specs.Fits.{FitsTicket, FitsFlight, is_settled, names_needed}
 use Rattle.wc_core.specs.Holds.{Basis, Stock, opening_of, bound_alone, entries_needed, ask_needs, has_value, is_reached, IsAtHome, IsAway, WorkIs, IsCore}
 use Rattle.wc_core.specs.Turns.{starts, IsTurn}
-use Rattle.wc_core.specs.Views.{Known, KnownTicket, KnownFlight, ask_of}
+use Rattle.wc_core.specs.Views.{Known, KnownTicket, KnownFlight, ask_of, ask_with, kinds_held}
 use Rattle.wc_core.proofs.Cores.{known, moved, restock, core_asked}
 use Rattle.wc_core.proofs.Goings.{asked_when}
 use Rattle.wc_core.proofs.OpenAsks.{needs_with, needs_at, pinned_with}
@@ -79,15 +80,16 @@ start_plain {V} chain feature b h d t k entries spare view core fits home missin
     let o : Opening = opening_of b in
     let resting = core_asked chain feature b h d t k view core fits in
     let asked = resting.asked in
-    let ask : Ask = ask_of t in
+    let ask : Ask = ask_with t asked.is_open.kinds in
     let session : ℕ = t.session in
-    let run : Run = record { session = session; kind = bound_kind; name = t.name; stamp = t.stamp; runs = home.runs } in
+    let run : Run = record { session = session; key = key_with bound_kind t.name t.stamp; runs = home.runs } in
     let new : State = begun core.st ask session t.stamp home.runs in
     let quiet : t.memory ≡ false = or_left t.memory _ missing in
-    let lacks : has_kind bound_kind ask.kinds ≡ false = or_left (has_kind bound_kind ask.kinds) _ (or_right t.memory _ missing) in
-    let absent = or_right (has_kind bound_kind ask.kinds) _ (or_right t.memory _ missing) in
+    let untaken : has_kind bound_kind (kinds_held t) ≡ false = or_left (has_kind bound_kind (kinds_held t)) _ (or_right t.memory _ missing) in
+    let lacks : has_kind bound_kind ask.kinds ≡ false = asked.is_open.same bound_kind ∙ untaken in
+    let absent = or_right (has_kind bound_kind (kinds_held t)) _ (or_right t.memory _ missing) in
     let out = reach_is chain feature b h d t core resting ∙ missing in
-    let unstored : is_stored o core.st ask bound_kind ≡ false = or_right (has_kind bound_kind ask.kinds) _ (or_right t.memory _ out) in
+    let unstored : is_stored o core.st ask bound_kind ≡ false = or_right (has_kind bound_kind (kinds_held t)) _ (or_right t.memory _ out) in
     let three : entries_needed ask ≡ 3 = three_needed t.memory (has_kind bound_kind ask.kinds) quiet lacks in
     let stepped = step_start b core.st ask session t.stamp home.runs asked.is_open.ask quiet resting.rests asked.is_open.stamp_is lacks unstored home.out_is
     (ap (home_of bound_kind) core.home ∙ home.home_is) in
@@ -120,7 +122,7 @@ start_plain {V} chain feature b h d t k entries spare view core fits home missin
     let moves = moved chain feature b h d k entries (Start session bound_kind t.name t.stamp) new d.slots [] (Some session) (d.owed - 1) d.room core view entries_are
     stepped tt refl refl leaves core.rows (ap (with_home bound_kind []) core.home) (length-with_ask session (Some ask) core.st.asks ∙ core.places)
     (pinned_with d.count session core.st.asks (Some ask) core.pinned asked.within) core.features core.few away (omega (arith, core.within, owed)) in
-    let settled : is_settled t ≡ false = ap (λ m. m || has_kind bound_kind ask.kinds) quiet ∙ lacks in
+    let settled : is_settled t ≡ false = ap (λ m. m || has_kind bound_kind (kinds_held t)) quiet ∙ untaken in
     record {
       core = moves.core;
       legal = moves.legal;
@@ -129,6 +131,8 @@ start_plain {V} chain feature b h d t k entries spare view core fits home missin
         st = new;
         state = moves.state;
         is_open = record {
+          kinds = asked.is_open.kinds;
+          same = asked.is_open.same;
           ask = asked_when (is_session o session) (ask_at session new.asks) ask asked.known_ there;
           inputs = asked.is_open.inputs;
           stamp_is = asked.is_open.stamp_is;

@@ -8,7 +8,8 @@ use Rattle.wc_model.specs.declared.inputs.Edit.{Edit}
 use Rattle.wc_model.specs.declared.kinds.Describe.{Describe}
 use Rattle.wc_model.specs.Workspace.Closures.{touches_any, last_touch, closure}
 use Rattle.wc_model.specs.Workspace.Edits.{Setting, bare, all_edited, edited, AgreeOnAll}
-use Rattle.wc_model.specs.Workspace.History.{Opening, State, Ask, Chain, IsLegal, is_session, is_free, can_edit, is_live, count_of, own_run, ask_at, after_edit, after_pin, untouched_keys, same_name, bound_kind}
+use Rattle.wc_model.specs.Workspace.History.{Chain, IsLegal, can_edit, is_live, after_edit, after_pin, bound_kind}
+use Rattle.wc_model.specs.Workspace.States.{Opening, State, Ask, is_session, is_free, count_of, own_run, ask_at, untouched_keys, same_name}
 use Rattle.wc_model.proofs.Replays.{kept_snoc, all_edited-append, last_touch-append}
 use Rattle.wc_model.proofs.Sharing.{asked_same, asked_other, length-with_ask, run_other, LeavesOthers}
 use Rattle.wc_model.proofs.Untouched.{agree_untouched, same_image}
@@ -255,6 +256,8 @@ goes_pin {V} chain feature b h d k entries session room name kept pinned spare v
         st = new;
         state = moves.state;
         is_open = record {
+          kinds = [];
+          same = λ kind. refl;
           ask = asked_when (is_session o session) (ask_at session new.asks) ask rest.known_ (asked_same session (Some ask) core.st.asks (omega (arith, place)));
           inputs = inputs_here chain feature b h d core;
           stamp_is = stamp_here chain feature b h d core;

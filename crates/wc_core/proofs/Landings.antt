@@ -1,25 +1,28 @@
 -- What comes home: want of memory, a value that is dropped, or one that is kept.
 use Rattle.std.proofs.Common.{◌≡◌, ℕ, ◌+◌, ◌-◌, ◌≤◌, Bool, true, false, not, ◌||◌, ◌==◌, List, [], ◌∷◌, ◌++◌, length, map, Option, None, Some, IfSome, refl, sym, ap, subst, ◌∙◌, arith, eqb-true, if◌then◌else◌}
 use Rattle.std.proofs.lemmas.List.{append-nil}
+use Rattle.std.proofs.lemmas.List.Folds.{list_any-append}
 use Rattle.std.specs.Global.{Global}
 use Rattle.std.specs.declared.sync.Arc.{Arc}
 use Rattle.wc_model.specs.declared.entries.End.{End}
 use Rattle.wc_model.specs.declared.entries.End.TheVariants.{Kept as KeptEnd, Dropped as DroppedEnd, Memory as MemoryEnd}
 use Rattle.wc_model.specs.declared.entries.Entry.{Entry}
 use Rattle.wc_model.specs.declared.entries.Entry.TheVariants.{Finish}
-use Rattle.wc_model.specs.Workspace.Closures.{has_kind}
+use Rattle.wc_model.specs.Workspace.Closures.{has_kind, SameKinds}
 use Rattle.wc_model.specs.Workspace.Edits.{Setting}
-use Rattle.wc_model.specs.Workspace.History.{Opening, State, Run, Ask, Chain, IsLegal, state_after, is_session, own_run, without_own, ask_at, with_home, home_of, stamp_at, count_of, right_end, stored as stored_at, rows_after, ask_after, after_finish, bound_kind}
+use Rattle.wc_model.specs.Workspace.History.{Chain, IsLegal, state_after, right_end, rows_after, ask_after, after_finish, key_with, bound_kind}
+use Rattle.wc_model.specs.Workspace.States.{Opening, State, Run, Ask, is_session, own_run, without_own, ask_at, with_home, home_of, stamp_at, count_of, stored as stored_at}
 use Rattle.wc_model.proofs.Sharing.{asked_same, asked_other, length-with_ask, in_other, LeavesOthers}
 use Rattle.wc_core.specs.declared.store.Slot.{Slot}
 use Rattle.wc_core.specs.Answers.{KeepsOthers, is_current}
 use Rattle.wc_core.specs.Features.{Each}
 use Rattle.wc_core.specs.Fits.{EachFeature, FitsTicket, FitsLanded, names_needed, run_of}
 use Rattle.wc_core.specs.Holds.{Basis, Stock, opening_of, row_of, entries_needed, ask_needs, asks_need, has_value, has_slot, with_value, AreFeatures, IsAtHome, WorkIs, IsCore}
-use Rattle.wc_core.specs.Views.{Known, KnownTicket, KnownLanded, ask_of, landed_of, held}
+use Rattle.wc_core.specs.Views.{Known, KnownTicket, KnownLanded, ask_of, ask_with, kinds_held, landed_of, held}
 use Rattle.wc_core.proofs.Cores.{known, moved, restock, core_opened, IsAsked, IsStable, now_here, stamp_here}
 use Rattle.wc_core.proofs.Goings.{asked_when}
-use Rattle.wc_core.proofs.OpenAsks.{some_same, needs_with, needs_at, pinned_with}
+use Rattle.wc_model.proofs.StepLemmas.{some_same}
+use Rattle.wc_core.proofs.OpenAsks.{needed_same, needs_with, needs_at, pinned_with}
 use Rattle.wc_core.proofs.Steps.{step_finish}
 use Rattle.wc_core.proofs.Stored.{same_number, stored_rows}
 use Rattle.wc_core.proofs.Values.{value_features, value_length}
@@ -55,8 +58,9 @@ flown_case chain feature b st d long l (Some s) runs work asked ran flies stamp 
     let mine : Run = run_of l.ticket l.kind l.stamp runs in
     let same : work.run ≡ mine = own_case l.ticket.session work.run mine (work.run.session == l.ticket.session) (sym (ap (own_run l.ticket.session) work.out_is) ∙ flies) in
     let session : s ≡ l.ticket.session = sym work.session_is ∙ ap (λ (r : Run). r.session) same in
-    let kind : l.kind ≡ bound_kind = ap (λ (r : Run). r.kind) (sym same) ∙ work.kind_is in
-    let ask : work.ask ≡ ask_of l.ticket = some_same work.ask (ask_of l.ticket) (sym work.asked ∙ ap (λ n. ask_at n st.asks) session ∙ asked.asked) in
+    let kind : l.kind ≡ bound_kind = ap (λ (r : Run). r.key.kind) (sym same) ∙ work.kind_is in
+    let mine_ask : Ask = ask_with l.ticket asked.is_open.kinds in
+    let ask : work.ask ≡ mine_ask = some_same work.ask mine_ask (sym work.asked ∙ ap (λ n. ask_at n st.asks) session ∙ asked.asked) in
     record {
       asked = asked;
       runs = runs;
@@ -66,9 +70,9 @@ flown_case chain feature b st d long l (Some s) runs work asked ran flies stamp 
       few = omega (arith, work.few, ap (λ (r : Run). r.runs) same);
       kind_is = kind;
       home_is = work.home_is;
-      needs = ap entries_needed (sym ask) ∙ work.needs;
+      needs = sym (needed_same asked.is_open) ∙ ap entries_needed (sym ask) ∙ work.needs;
       owes = work.owes;
-      absent = λ current. ap (λ (r : Run). has_value r.name d.slots) (sym same) ∙ work.absent (ap (λ (r : Run). r.stamp) same ∙ current);
+      absent = λ current. ap (λ (r : Run). has_value r.key.name d.slots) (sym same) ∙ work.absent (ap (λ (r : Run). r.key.stamp) same ∙ current);
       stamp_is = asked.is_open.stamp_is ∙ ap (λ k. stamp_at (opening_of b) st k l.ticket.at) (sym kind) ∙ sym stamp;
       gave = gave;
       names = names;
@@ -92,28 +96,39 @@ pub record Gives {V : Type 0} (chain : Chain) (feature : ℕ → Setting → Lis
 without_same : (session : ℕ) (run : Run) → run.session ≡ session → without_own session (run ∷ []) ≡ []
 without_same session run is = rw (same_number run.session session is) refl
 
+-- What an end adds to the kinds of the replay's ask is what it adds to the ticket's.
+pub record GrowsTo {V : Type 0} (end : End) (kind : ℕ) (t left : KnownTicket V) (kinds : List ℕ) : Type 0 where
+  pub new : List ℕ
+  pub grown : ask_after end kind (ask_with t kinds) ≡ ask_with left new
+  pub same : SameKinds new (kinds_held left)
+
+abbrev Grows : {V : Type 0} → End → ℕ → KnownTicket V → KnownTicket V → Type 0
+Grows end kind t left = (kinds : List ℕ) → SameKinds kinds (kinds_held t) → GrowsTo end kind t left kinds
+
 -- A finish of the bound, whatever its end.
 finishes : {V : Type 0} (chain : Chain) (feature : ℕ → Setting → List ℕ → V → Type 0) (b : Basis) (h : List Entry) (d : Stock V) (l : KnownLanded V) (k : Known) (entries : List Entry) (end : End) (slots : List (Slot V)) (had : List (ℕ × V)) (memory : Bool) (spare : ℕ)
     → known b h ≡ k → (core : IsCore chain feature b h d) → IsFlown feature b core.st d (length h) l
     → entries ≡ h ++ Finish l.ticket.session l.kind l.ticket.name l.stamp end ∷ []
     → right_end end (l.stamp == stamp_at (opening_of b) core.st l.kind (count_of core.st)) ≡ true
-    → rows_after end l.ticket.name l.kind l.stamp core.st.rows ≡ map (row_of d.stamp) slots
+    → rows_after end (key_with l.kind l.ticket.name l.stamp) core.st.rows ≡ map (row_of d.stamp) slots
     → AreFeatures (feature bound_kind d.inputs) slots → length slots ≤ 32
-    → ask_after end l.kind (ask_of l.ticket) ≡ ask_of (record l.ticket { had = had; memory = memory; spare = spare })
+    → Grows end l.kind l.ticket (record l.ticket { had = had; memory = memory; spare = spare })
     → (memory || has_kind bound_kind (map (λ x. x.0) had)) ≡ true
     → EachFeature (λ n v. feature n l.ticket.inputs l.ticket.name v) had
     → 1 ≤ spare
     → Gives chain feature b k entries l.ticket.session (restock d slots (l.runs ∷ []) None (d.owed - 1) d.room) (record l.ticket { had = had; memory = memory; spare = spare })
-finishes {V} chain feature b h d l k entries end slots had memory spare view core flown entries_are right rows features few ask_is settled has names =
+finishes {V} chain feature b h d l k entries end slots had memory spare view core flown entries_are right rows features few grows settled has names =
     let o : Opening = opening_of b in
     let t : KnownTicket V = l.ticket in
     let session : ℕ = t.session in
     let run : Run = run_of t l.kind l.stamp flown.runs in
     let left : KnownTicket V = record t { had = had; memory = memory; spare = spare } in
-    let ask : Ask = ask_after end l.kind (ask_of t) in
-    let new : State = after_finish core.st (ask_of t) run session l.kind t.name l.stamp end in
     let asked = flown.asked in
-    let stepped = step_finish o core.st (ask_of t) run session end asked.is_open.ask flown.flies right in
+    let old : Ask = ask_with t asked.is_open.kinds in
+    let grown = grows asked.is_open.kinds asked.is_open.same in
+    let ask : Ask = ask_after end l.kind old in
+    let new : State = after_finish core.st session run.key end old run in
+    let stepped = step_finish o core.st old run session end asked.is_open.ask flown.flies right in
     let leaves : LeavesOthers session core.st new = record {
       asks = λ s other. asked_other s session (Some ask) core.st.asks other;
       runs = λ s other. in_other s session core.st.out other;
@@ -123,8 +138,8 @@ finishes {V} chain feature b h d l k entries end slots had memory spare view cor
     let d' : Stock V = restock d slots (l.runs ∷ []) None (d.owed - 1) d.room in
     let there = asked_same session (Some ask) core.st.asks asked.place in
     let needs = needs_with session core.st.asks (Some ask) asked.place in
-    let mine : ask_needs (ask_at session core.st.asks) ≡ 3 = ap ask_needs asked.asked ∙ flown.needs in
-    let one : entries_needed ask ≡ 1 = ap entries_needed ask_is ∙ ap (λ s. if s then 1 else 3) settled in
+    let mine : ask_needs (ask_at session core.st.asks) ≡ 3 = ap ask_needs asked.asked ∙ needed_same asked.is_open ∙ flown.needs in
+    let one : entries_needed ask ≡ 1 = ap entries_needed grown.grown ∙ ap (λ has. if memory || has then 1 else 3) (grown.same bound_kind) ∙ ap (λ s. if s then 1 else 3) settled in
     let out_is = ap (without_own session) flown.out_is ∙ without_same session run refl in
     let home : IsAtHome new d' (length h + 1) = record {
       out_is = out_is;
@@ -134,11 +149,11 @@ finishes {V} chain feature b h d l k entries end slots had memory spare view cor
       owes = omega (arith, needs, mine, one, flown.owes);
     } in
     let at_home : new.home ≡ (bound_kind, l.runs ∷ []) ∷ [] =
-    ap (λ kind. with_home kind ((flown.runs + 1) ∷ home_of kind core.st.home) core.st.home) flown.kind_is
-    ∙ ap (λ hs. with_home bound_kind ((flown.runs + 1) ∷ home_of bound_kind hs) hs) (core.home ∙ ap (λ x. (bound_kind, x) ∷ []) flown.home_is)
+    ap (λ kind. with_home kind (home_of kind core.st.home ++ (flown.runs + 1) ∷ []) core.st.home) flown.kind_is
+    ∙ ap (λ hs. with_home bound_kind (home_of bound_kind hs ++ (flown.runs + 1) ∷ []) hs) (core.home ∙ ap (λ x. (bound_kind, x) ∷ []) flown.home_is)
     ∙ ap (λ n. (bound_kind, n ∷ []) ∷ []) (sym flown.ran) in
     let owed : 2 ≤ d.owed = omega (arith, flown.owes, mine, needs_at session core.st.asks) in
-    let within_count : ask.at ≤ d.count = omega (arith, ap (λ (a : Ask). a.at) ask_is, asked.within) in
+    let within_count : ask.at ≤ d.count = omega (arith, ap (λ (a : Ask). a.at) grown.grown, asked.within) in
     let moves = moved chain feature b h d k entries (Finish session l.kind t.name l.stamp end) new slots (l.runs ∷ []) None (d.owed - 1) d.room core view entries_are
     stepped tt refl refl leaves rows at_home (length-with_ask session (Some ask) core.st.asks ∙ core.places)
     (pinned_with d.count session core.st.asks (Some ask) core.pinned within_count) features few home (omega (arith, core.within, owed)) in
@@ -150,7 +165,9 @@ finishes {V} chain feature b h d l k entries end slots had memory spare view cor
         st = new;
         state = moves.state;
         is_open = record {
-          ask = asked_when (is_session o session) (ask_at session new.asks) (ask_of left) asked.known_ (there ∙ ap (λ a. Some a) ask_is);
+          kinds = grown.new;
+          same = grown.same;
+          ask = asked_when (is_session o session) (ask_at session new.asks) (ask_with left grown.new) asked.known_ (there ∙ ap (λ a. Some a) grown.grown);
           inputs = asked.is_open.inputs;
           stamp_is = asked.is_open.stamp_is;
           features = has;
@@ -189,7 +206,7 @@ pub away_all : {V A : Type 0} (chain : Chain) (feature : ℕ → Setting → Lis
 away_all chain feature b h d l k runs_of works view core fits home =
     let flown = core_flown chain feature b h d l k view core fits in
     let both = three_back l.ticket.memory (has_kind bound_kind (ask_of l.ticket).kinds) flown.needs in
-    let mine : ask_needs (ask_at l.ticket.session core.st.asks) ≡ 3 = ap ask_needs flown.asked.asked ∙ flown.needs in
+    let mine : ask_needs (ask_at l.ticket.session core.st.asks) ≡ 3 = ap ask_needs flown.asked.asked ∙ needed_same flown.asked.is_open ∙ flown.needs in
     let owed : 2 ≤ d.owed = omega (arith, flown.owes, mine, needs_at l.ticket.session core.st.asks) in
     record {
       within = omega (arith, core.within, owed);
@@ -225,7 +242,7 @@ lost_all {V} {A} chain feature b h d t left k entries runs_of works back work ki
     let l : KnownLanded V = landed_of t kind own (runs_of work) None in
     let flown = core_flown chain feature b h d l k view core fits in
     let away = away_all chain feature b h d l k runs_of works view core fits home in
-    let base = finishes chain feature b h d l k entries MemoryEnd d.slots t.had true left.spare view core flown entries_are refl core.rows core.features core.few refl refl flown.asked.is_open.features
+    let base = finishes chain feature b h d l k entries MemoryEnd d.slots t.had true left.spare view core flown entries_are refl core.rows core.features core.few (λ kinds same. record { new = kinds; grown = refl; same = same }) refl flown.asked.is_open.features
     (omega (arith, flown.names, ap (λ (x : KnownTicket V). x.spare) left_is)) in
     let T : KnownTicket V → Type 0 = λ x. Gives chain feature b k entries t.session (restock d d.slots (runs_of work ∷ []) None (d.owed - 1) d.room) x in
     let H : List ℕ → Type 0 = λ ws. Gives chain feature b k entries t.session (restock d d.slots ws None (d.owed - 1) d.room) (record left { memory = true }) in
@@ -239,13 +256,19 @@ held_none (Some a) is = cc
 had_none : {V : Type 0} (had : Option (Arc V Global)) (t : KnownTicket V) → held had ≡ t.had → has_kind bound_kind (map (λ x. x.0) t.had) ≡ false → t.had ≡ []
 had_none {V} had t is lacks = sym is ∙ held_none had (ap (λ (hs : List (ℕ × V)). has_kind bound_kind (map (λ (x : ℕ × V). x.0) hs)) is ∙ lacks)
 
-abbrev ask_with : {V : Type 0} → KnownTicket V → List ℕ → Ask
-ask_with t kinds = record { name = t.name; at = t.at; kinds = kinds; memory = t.memory }
+grown_kinds : (kinds held : List ℕ) (kind : ℕ) → SameKinds kinds held → held ≡ [] → kind ≡ bound_kind → SameKinds (kinds ++ kind ∷ []) (bound_kind ∷ [])
+grown_kinds kinds held kind same none is = λ k.
+    list_any-append (λ (j : ℕ). j == k) kinds (kind ∷ [])
+    ∙ ap (λ has. has || has_kind k (kind ∷ [])) (same k ∙ ap (has_kind k) none)
+    ∙ ap (λ j. has_kind k (j ∷ [])) is
 
-grown : {V : Type 0} (t : KnownTicket V) (v : V) (kind spare : ℕ) → t.had ≡ [] → kind ≡ bound_kind
-    → record (ask_of t) { kinds = (ask_of t).kinds ++ kind ∷ [] } ≡ ask_of (record t { had = (bound_kind, v) ∷ []; memory = t.memory; spare = spare })
-grown {V} t v kind spare none is =
-    ap (λ n. ask_with t ((ask_of t).kinds ++ n ∷ [])) is ∙ ap (λ (hs : List (ℕ × V)). ask_with t (map (λ (x : ℕ × V). x.0) hs ++ bound_kind ∷ [])) none
+grown_by : {V : Type 0} (end : End) (t : KnownTicket V) (v : V) (kind spare : ℕ) → ((ask : Ask) → ask_after end kind ask ≡ record ask { kinds = ask.kinds ++ kind ∷ [] }) → t.had ≡ [] → kind ≡ bound_kind
+    → Grows end kind t (record t { had = (bound_kind, v) ∷ []; memory = t.memory; spare = spare })
+grown_by {V} end t v kind spare adds none is = λ kinds same. record {
+  new = kinds ++ kind ∷ [];
+  grown = adds (ask_with t kinds);
+  same = grown_kinds kinds (kinds_held t) kind same (ap (map (λ (x : ℕ × V). x.0)) none) is;
+}
 
 settled_true : (b : Bool) → (b || true) ≡ true
 settled_true true = refl
@@ -269,7 +292,7 @@ dropped_all {V} {A} chain feature b h d t left k entries runs_of works back work
     let old : is_current (opening_of b) core.st kind own ≡ false = subst P (sym view) past core.st core.kept.state in
     let K : ℕ → Type 0 = λ n. feature n t.inputs t.name v in
     let base = finishes chain feature b h d l k entries DroppedEnd d.slots ((bound_kind, v) ∷ []) t.memory left.spare view core flown entries_are (ap not old) core.rows core.features core.few
-    (grown t v kind left.spare none away.kind_is) (settled_true t.memory) (subst K away.kind_is flown.gave, tt)
+    (grown_by DroppedEnd t v kind left.spare (λ ask. refl) none away.kind_is) (settled_true t.memory) (subst K away.kind_is flown.gave, tt)
     (omega (arith, flown.names, ap (λ (x : KnownTicket V). x.spare) left_is)) in
     let T : KnownTicket V → Type 0 = λ x. Gives chain feature b k entries t.session (restock d d.slots (runs_of work ∷ []) None (d.owed - 1) d.room) x in
     let H : List ℕ → Type 0 = λ ws. Gives chain feature b k entries t.session (restock d d.slots ws None (d.owed - 1) d.room) (record left { had = (bound_kind, v) ∷ [] }) in
@@ -301,13 +324,13 @@ kept_all {V} {A} chain feature b h d t mid left k entries runs_of works back wor
     let stamp : own ≡ d.stamp = eqb-true own _ now ∙ ap (λ n. stamp_at o core.st n (count_of core.st)) away.kind_is ∙ sym (stamp_here chain feature b h d core) in
     let absent : has_value t.name d.slots ≡ false = flown.absent stamp in
     let slots : List (Slot V) = with_value t.name value d.slots in
-    let rows = ap (λ n. stored_at t.name n own core.st.rows) away.kind_is ∙ ap (λ n. stored_at t.name bound_kind n core.st.rows) stamp ∙ ap (stored_at t.name bound_kind d.stamp) core.rows ∙ stored_rows t.name d.stamp value d.slots absent in
+    let rows = ap (λ n. stored_at (key_with n t.name own) core.st.rows) away.kind_is ∙ ap (λ n. stored_at (key_with bound_kind t.name n) core.st.rows) stamp ∙ ap (stored_at (key_with bound_kind t.name d.stamp)) core.rows ∙ stored_rows t.name d.stamp value d.slots absent in
     let K : ℕ → Type 0 = λ n. feature n t.inputs t.name value.value in
     let G : V → Type 0 = λ x. feature bound_kind t.inputs t.name x in
     let mine : feature bound_kind t.inputs t.name value.value = subst K away.kind_is flown.gave in
     let features = value_features (feature bound_kind d.inputs) t.name value d.slots (has_slot t.name d.slots) (now_here chain feature b h d t t.name value.value stable core flown.asked (flown.stamp_is ∙ stamp) mine) core.features in
     let base = finishes chain feature b h d l k entries KeptEnd slots ((bound_kind, v) ∷ []) t.memory left.spare view core flown entries_are now rows features (value_length t.name value d.slots (has_slot t.name d.slots) core.few)
-    (grown t v kind left.spare none away.kind_is) (settled_true t.memory) (subst G (sym same) mine, tt)
+    (grown_by KeptEnd t v kind left.spare (λ ask. refl) none away.kind_is) (settled_true t.memory) (subst G (sym same) mine, tt)
     (omega (arith, flown.names, ap (λ (x : KnownTicket V). x.spare) t_is)) in
     let T : KnownTicket V → Type 0 = λ x. Gives chain feature b k entries t.session (restock d slots (runs_of work ∷ []) None (d.owed - 1) d.room) x in
     let S : List (Slot V) → Type 0 = λ ss. Gives chain feature b k entries t.session (restock d ss (runs_of work ∷ []) None (d.owed - 1) d.room) (record left { had = (bound_kind, v) ∷ [] }) in

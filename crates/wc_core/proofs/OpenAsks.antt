@@ -1,22 +1,17 @@
 -- The open asks of all sessions, and what an entry of one session leaves of the others.
-use Rattle.std.proofs.Common.{◌≡◌, ◌≢◌, ℕ, zero, suc, ◌+◌, ◌<◌, ◌≤◌, Bool, true, false, ◌&&◌, List, [], ◌∷◌, length, Option, None, Some, IfSome, is_none, nat_le, refl, sym, ap, subst, ◌∙◌, arith, if◌then◌else◌}
+use Rattle.std.proofs.Common.{◌≡◌, ◌≢◌, ℕ, zero, suc, ◌+◌, ◌<◌, ◌≤◌, Bool, true, false, ◌&&◌, ◌||◌, List, [], ◌∷◌, length, Option, None, Some, IfSome, is_none, nat_le, refl, sym, ap, subst, ◌∙◌, arith, if◌then◌else◌}
 use Rattle.std.proofs.lemmas.Bool.{leb-true}
 use Rattle.wc_model.specs.declared.entries.Entry.{Entry}
 use Rattle.wc_model.specs.Workspace.Edits.{Setting}
-use Rattle.wc_model.specs.Workspace.History.{Opening, State, Ask, state_after, ask_at, with_ask, own_run, is_free, is_session, stamp_at, bound_kind}
+use Rattle.wc_model.specs.Workspace.History.{state_after, bound_kind}
+use Rattle.wc_model.specs.Workspace.States.{Opening, State, Ask, ask_at, with_ask, own_run, is_free, is_session, stamp_at}
 use Rattle.wc_model.proofs.Sharing.{asked_other, LeavesOthers, open_other, inputs_later, stamp_later}
+use Rattle.wc_model.proofs.StepLemmas.{if_some, some_same}
 use Rattle.wc_core.specs.Answers.{KeepsOthers}
 use Rattle.wc_core.specs.Features.{Each}
 use Rattle.wc_core.specs.Fits.{IsOpen}
-use Rattle.wc_core.specs.Holds.{ask_needs, asks_need}
-use Rattle.wc_core.specs.Views.{Known, KnownTicket, ask_of}
-
-pub some_same : {A : Type 0} (a b : A) → Some a ≡ Some b → a ≡ b
-some_same a b p = cc
-
-pub if_some : {A : Type 0} (b : Bool) (x : Option A) (a : A) → (if b then x else None) ≡ Some a → (b ≡ true) × (x ≡ Some a)
-if_some true x a p = (refl, p)
-if_some false x a p = cc
+use Rattle.wc_core.specs.Holds.{ask_needs, asks_need, entries_needed}
+use Rattle.wc_core.specs.Views.{Known, KnownTicket, ask_of, ask_with}
 
 pub and_left : (a b : Bool) → (a && b) ≡ true → a ≡ true
 and_left true b p = refl
@@ -72,14 +67,20 @@ pub needs_two : (s r : ℕ) (asks : List (Option Ask)) → s < length asks → r
 needs_two s r asks within other =
     omega (arith, needs_with s asks None within, needs_at r (with_ask s None asks), ap ask_needs (asked_other r s None asks other))
 
+-- The replay's ask of a ticket needs what the ticket needs.
+pub needed_same : {V : Type 0} {feature : ℕ → Setting → List ℕ → V → Type 0} {o : Opening} {st : State} {t : KnownTicket V} (is : IsOpen feature o st t) → entries_needed (ask_with t is.kinds) ≡ entries_needed (ask_of t)
+needed_same {V} {feature} {o} {st} {t} is = ap (λ has. if t.memory || has then 1 else 3) (is.same bound_kind)
+
 -- What other sessions hold.
 
 open_later : {V : Type 0} (feature : ℕ → Setting → List ℕ → V → Type 0) (o : Opening) (session : ℕ) (st new : State) (t : KnownTicket V)
     → LeavesOthers session st new → Each (PinnedBy (length st.edits)) st.asks → t.session ≢ session → IsOpen feature o st t → IsOpen feature o new t
 open_later feature o session st new t leaves pinned other is =
-    let asked = (if_some (is_session o t.session) (ask_at t.session st.asks) (ask_of t) is.ask).1 in
-    let within : t.at ≤ length st.edits = pinned_at (length st.edits) t.session st.asks (ask_of t) pinned asked in
+    let asked = (if_some (is_session o t.session) (ask_at t.session st.asks) (ask_with t is.kinds) is.ask).1 in
+    let within : t.at ≤ length st.edits = pinned_at (length st.edits) t.session st.asks (ask_with t is.kinds) pinned asked in
     record {
+      kinds = is.kinds;
+      same = is.same;
       ask = open_other o session t.session st new leaves other ∙ is.ask;
       inputs = is.inputs ∙ inputs_later o session t.at st new leaves within;
       stamp_is = is.stamp_is ∙ stamp_later o session bound_kind t.at st new leaves within;
@@ -89,8 +90,8 @@ open_later feature o session st new t leaves pinned other is =
 stamp_on : {V : Type 0} (feature : ℕ → Setting → List ℕ → V → Type 0) (o : Opening) (session kind : ℕ) (st new : State) (t : KnownTicket V)
     → LeavesOthers session st new → Each (PinnedBy (length st.edits)) st.asks → IsOpen feature o st t → stamp_at o st kind t.at ≡ stamp_at o new kind t.at
 stamp_on feature o session kind st new t leaves pinned is =
-    let asked = (if_some (is_session o t.session) (ask_at t.session st.asks) (ask_of t) is.ask).1 in
-    stamp_later o session kind t.at st new leaves (pinned_at (length st.edits) t.session st.asks (ask_of t) pinned asked)
+    let asked = (if_some (is_session o t.session) (ask_at t.session st.asks) (ask_with t is.kinds) is.ask).1 in
+    stamp_later o session kind t.at st new leaves (pinned_at (length st.edits) t.session st.asks (ask_with t is.kinds) pinned asked)
 
 free_still : (o : Opening) (session s : ℕ) (st new : State) → LeavesOthers session st new → s ≢ session → is_free o st s ≡ true → is_free o new s ≡ true
 free_still o session s st new leaves other free = ap (λ a. is_session o s && is_none a) (leaves.asks s other) ∙ free

@@ -1,44 +1,46 @@
 -- The opening entries, their edits, and the core's invariant after them; and what is left at the end.
-use Rattle.std.proofs.Common.{◌≡◌, ℕ, zero, suc, ◌+◌, ◌≤◌, Bool, true, false, ◌&&◌, List, [], ◌∷◌, ◌++◌, length, take, drop, map, replicate, Option, None, Some, is_none, nat_le, refl, sym, ap, subst, ◌∙◌, append_assoc, arith, le-leb, if◌then◌else◌}
+use Rattle.std.proofs.Common.{◌≡◌, ℕ, zero, suc, ◌+◌, ◌≤◌, Bool, true, false, not, ◌&&◌, List, [], ◌∷◌, ◌++◌, length, take, drop, map, replicate, Option, None, Some, is_none, nat_le, refl, sym, ap, subst, ◌∙◌, append_assoc, arith, le-leb, if◌then◌else◌}
 use Rattle.std.proofs.lemmas.List.{append-nil}
 use Rattle.std.proofs.Math.Seq.{take-length, drop-length}
 use Rattle.wc_model.specs.declared.elf_image.Image.{Image}
 use Rattle.wc_model.specs.declared.entries.Entry.{Entry}
-use Rattle.wc_model.specs.declared.entries.Entry.TheVariants.{Edit as EditEntry}
 use Rattle.wc_model.specs.declared.flow_facts.Fact.{Fact}
 use Rattle.wc_model.specs.declared.flow_facts.Fact.TheVariants.{Loop, Multibranch, Multicall, Noreturn, Checksum, Limit}
 use Rattle.wc_model.specs.declared.inputs.Edit.{Edit}
 use Rattle.wc_model.specs.declared.inputs.Edit.TheVariants.{Add, Hardware as Timing}
 use Rattle.wc_model.specs.Workspace.Closures.{touches_any, last_touch}
-use Rattle.wc_model.specs.Workspace.Edits.{Setting, bare, edited, all_edited, edits_of}
-use Rattle.wc_model.specs.Workspace.History.{Opening, State, Ask, Chain, EachRight, IsLegal, opening_entries, fact_entries, state_after, opened, replay, start, is_free, is_session, ask_at, home_of, bound_kind}
+use Rattle.wc_model.specs.Workspace.Edits.{Setting, bare, edited, all_edited, edits_of, numbered, is_checksum}
+use Rattle.wc_model.specs.Workspace.History.{Chain, EachRight, IsLegal, opening_entries, opening_entry, opening_facts, state_after, opened, replay, bound_kind}
+use Rattle.wc_model.specs.Workspace.States.{Opening, State, Ask, start, is_free, is_session, ask_at, home_of}
 use Rattle.wc_model.proofs.Replays.{Kept, length-opening_entries}
+use Rattle.wc_model.proofs.RestLemmas.{nothing_out}
 use Rattle.wc_core.specs.declared.store.Slot.{Slot}
-use Rattle.wc_core.specs.Answers.{LeavesFree, LeavesAllFree, RunsNothing}
+use Rattle.wc_core.specs.Answers.{LeavesFree, RunsNothing}
 use Rattle.wc_core.specs.Features.{Each}
-use Rattle.wc_core.specs.Holds.{Basis, Stock, opening_of, all_parts, numbered_from, stamp_from, is_plain_fact, asks_need, WorkIs, IsCore}
+use Rattle.wc_core.specs.Holds.{Basis, Stock, opening_of, all_parts, stamp_from, asks_need, WorkIs, IsCore}
 use Rattle.wc_core.specs.Views.{Known}
 use Rattle.wc_core.proofs.Cores.{known, core_legal}
-use Rattle.wc_core.proofs.OpenAsks.{PinnedBy, some_same, and_right, session_within}
+use Rattle.wc_model.proofs.StepLemmas.{some_same}
+use Rattle.wc_core.proofs.OpenAsks.{PinnedBy}
 
-edits_of-facts : (count : ℕ) (facts : List Fact) → edits_of (fact_entries count facts) ≡ map Add facts
-edits_of-facts count [] = refl
-edits_of-facts count (f ∷ fs) = ap (λ l. Add f ∷ l) (edits_of-facts (count + 1) fs)
+edits_of-facts : (number : ℕ) (facts : List Fact) → edits_of (map opening_entry (numbered number facts)) ≡ map Add facts
+edits_of-facts number [] = refl
+edits_of-facts number (f ∷ fs) = ap (λ l. Add f ∷ l) (edits_of-facts (number + 1) fs)
 
-right_facts : (chain : Chain) (image : Image) (edits : List Edit) (count : ℕ) (facts : List Fact) → EachRight chain image edits (fact_entries count facts)
-right_facts chain image edits count [] = tt
-right_facts chain image edits count (f ∷ fs) = (tt, right_facts chain image (edits ++ Add f ∷ []) (count + 1) fs)
+right_facts : (chain : Chain) (image : Image) (edits : List Edit) (number : ℕ) (facts : List Fact) → EachRight chain image edits (map opening_entry (numbered number facts))
+right_facts chain image edits number [] = tt
+right_facts chain image edits number (f ∷ fs) = (tt, right_facts chain image (edits ++ Add f ∷ []) (number + 1) fs)
 
 with_facts : Setting → List (ℕ × Fact) → Setting
 with_facts s facts = record s { facts = facts }
 
-pub all_added : (count : ℕ) (s : Setting) (facts : List Fact) → all_edited count s (map Add facts) ≡ record s { facts = s.facts ++ numbered_from (count + 1) facts }
+pub all_added : (count : ℕ) (s : Setting) (facts : List Fact) → all_edited count s (map Add facts) ≡ record s { facts = s.facts ++ numbered (count + 1) facts }
 unfolding with_facts
 all_added count s [] = ap (λ fs. with_facts s fs) (sym (append-nil s.facts))
 all_added count s (f ∷ fs) =
-    all_added (count + 1) (edited (count + 1) s (Add f)) fs ∙ ap (λ l. with_facts s l) (append_assoc s.facts ((count + 1, f) ∷ []) (numbered_from (count + 1 + 1) fs))
+    all_added (count + 1) (edited (count + 1) s (Add f)) fs ∙ ap (λ l. with_facts s l) (append_assoc s.facts ((count + 1, f) ∷ []) (numbered (count + 1 + 1) fs))
 
-touched_by : (s : Setting) (f : Fact) → touches_any all_parts s (Add f) ≡ is_plain_fact f
+touched_by : (s : Setting) (f : Fact) → touches_any all_parts s (Add f) ≡ not (is_checksum f)
 touched_by s (Loop at bound within) = refl
 touched_by s (Multibranch at to) = refl
 touched_by s (Multicall at to) = refl
@@ -46,11 +48,15 @@ touched_by s (Noreturn at) = refl
 touched_by s (Checksum name value) = refl
 touched_by s (Limit left right) = refl
 
-pub last_added : (stamp count : ℕ) (s : Setting) (facts : List Fact) → last_touch all_parts stamp count s (map Add facts) ≡ stamp_from stamp count facts
+last_case : (checksum : Bool) (number stamp : ℕ) → (if not checksum then number else stamp) ≡ (if checksum then stamp else number)
+last_case true number stamp = refl
+last_case false number stamp = refl
+
+pub last_added : (stamp count : ℕ) (s : Setting) (facts : List Fact) → last_touch all_parts stamp count s (map Add facts) ≡ stamp_from stamp (numbered (count + 1) facts)
 last_added stamp count s [] = refl
 last_added stamp count s (f ∷ fs) =
-    ap (λ b. last_touch all_parts (if b then count + 1 else stamp) (count + 1) (edited (count + 1) s (Add f)) (map Add fs)) (touched_by s f)
-    ∙ last_added (if is_plain_fact f then count + 1 else stamp) (count + 1) (edited (count + 1) s (Add f)) fs
+    ap (λ n. last_touch all_parts n (count + 1) (edited (count + 1) s (Add f)) (map Add fs)) (ap (λ b. if b then count + 1 else stamp) (touched_by s f) ∙ last_case (is_checksum f) (count + 1) stamp)
+    ∙ last_added (if is_checksum f then stamp else count + 1) (count + 1) (edited (count + 1) s (Add f)) fs
 
 length-map : (facts : List Fact) → length (map Add facts) ≡ length facts
 length-map [] = refl
@@ -85,14 +91,14 @@ and_both false b p q = p
 pub record Opens {V : Type 0} (chain : Chain) (feature : ℕ → Setting → List ℕ → V → Type 0) (b : Basis) (h : List Entry) (d : Stock V) : Type 0 where
   pub core : IsCore chain feature b h d
   pub legal : IsLegal chain (opening_of b) h
-  pub free : LeavesAllFree (opening_of b) h
+  pub free : (session : ℕ) → 1 ≤ session → session ≤ b.sessions → LeavesFree (opening_of b) h session
 
 abbrev pub first_stock : {V : Type 0} → Basis → ℕ → ℕ → Stock V
 first_stock b first room =
     record {
-      inputs = record { image = b.image; facts = numbered_from 2 b.facts; hardware = b.hardware };
+      inputs = record { image = b.image; facts = opening_facts b.facts; hardware = b.hardware };
       count = length b.facts + 1;
-      stamp = stamp_from first 1 b.facts;
+      stamp = stamp_from first (opening_facts b.facts);
       slots = [];
       home = 0 ∷ [];
       runner = None;
@@ -126,7 +132,7 @@ opens {V} chain feature b first room first_is within =
       pinned = pinned_none (length b.facts + 1) (b.sessions + 1);
       inputs_are = sym (all_added 1 (record { image = b.image; facts = []; hardware = b.hardware }) b.facts);
       count_is = sym (ap (λ n. suc n) (length-map b.facts) ∙ omega arith);
-      stamp_is = ap (λ n. stamp_from n 1 b.facts) first_is
+      stamp_is = ap (λ n. stamp_from n (opening_facts b.facts)) first_is
           ∙ sym (last_added (if touches_any all_parts (bare b.image) (Timing b.hardware) then 1 else 0) 1 (record { image = b.image; facts = []; hardware = b.hardware }) b.facts);
       features = tt;
       few = omega arith;
@@ -160,10 +166,10 @@ all_known kind_of P (w ∷ ws) each = (each.0.1, all_known kind_of P ws each.1)
 pub opens_all : {V : Type 0} (chain : Chain) (feature : ℕ → Setting → List ℕ → V → Type 0) (b : Basis) (first room : ℕ) (h : List Entry) (inputs : Setting) (count stamp : ℕ) (slots : List (Slot V)) (home : List ℕ)
     → first ≡ (if touches_any all_parts (bare b.image) (Timing b.hardware) then 1 else 0)
     → length b.facts + 1 ≤ room
-    → h ≡ EditEntry 0 1 (Timing b.hardware) ∷ fact_entries 2 b.facts
-    → inputs ≡ record { image = b.image; facts = numbered_from 2 b.facts; hardware = b.hardware }
+    → h ≡ opening_entries (opening_of b)
+    → inputs ≡ record { image = b.image; facts = opening_facts b.facts; hardware = b.hardware }
     → count ≡ length b.facts + 1
-    → stamp ≡ stamp_from first 1 b.facts
+    → stamp ≡ stamp_from first (opening_facts b.facts)
     → slots ≡ []
     → home ≡ 0 ∷ []
     → Opens chain feature (record b { image = inputs.image }) h (record { inputs = inputs; count = count; stamp = stamp; slots = slots; home = home; runner = None; owed = 0; room = room })
@@ -214,25 +220,12 @@ runs_all chain feature b h d k runs_of works st view core home state =
     let same = some_same core.st st (sym core.kept.state ∙ subst S (sym view) state) in
     sym home ∙ sym (ap (home_of bound_kind) core.home) ∙ ap (λ (s : State). home_of bound_kind s.home) same
 
--- Where no session has an open ask, no run is out.
-rests_case : {V : Type 0} (b : Basis) (st : State) (d : Stock V) (long : ℕ) (runner : Option ℕ) → WorkIs (opening_of b) st d long runner
-    → ((session : ℕ) → 1 ≤ session → session ≤ b.sessions → is_free (opening_of b) st session ≡ true) → st.out ≡ []
-rests_case b st d long None work free = work.out_is
-rests_case b st d long (Some s) work free =
-    let there = session_within (opening_of b) s work.known in
-    let none = and_right (is_session (opening_of b) s) (is_none (ask_at s st.asks)) (free s there.0 there.1) in
-    let some = sym (ap (λ (a : Option Ask). is_none a) work.asked) ∙ none in absurd (cc)
-
-pub rests_all : {V : Type 0} (chain : Chain) (feature : ℕ → Setting → List ℕ → V → Type 0) (b : Basis) (h : List Entry) (d : Stock V) (k : Known)
-    → known b h ≡ k → IsCore chain feature b h d → LeavesAllFree k.opening k.history → RunsNothing k.opening k.history
-rests_all chain feature b h d k view core leaves =
-    let L : Known → Type 0 = λ v. LeavesAllFree v.opening v.history in
-    let N : Known → Type 0 = λ v. RunsNothing v.opening v.history in
-    let all = subst L (sym view) leaves in
-    let free : (session : ℕ) → 1 ≤ session → session ≤ b.sessions → is_free (opening_of b) core.st session ≡ true = λ session least most.
-    (let own = all session least most in let F : State → Type 0 = λ x. is_free (opening_of b) x session ≡ true in subst F (some_same own.st core.st (sym own.state ∙ core.kept.state)) own.free) in
-    subst N view (record { st = core.st; state = core.kept.state; none = rests_case b core.st d (length h) d.runner core.work free })
-
--- A session that is alone.
-pub alone_free : (o : Opening) (h : List Entry) → o.sessions ≡ 1 → LeavesFree o h 1 → LeavesAllFree o h
-alone_free o h one free = λ session least most. let F : ℕ → Type 0 = λ s. LeavesFree o h s in let same : 1 ≡ session = omega (arith, one) in subst F same free
+-- Where the one session of a workspace is free, no run is out.
+pub alone_rests : (o : Opening) (h : List Entry) → o.sessions ≡ 1 → LeavesFree o h 1 → RunsNothing o h
+alone_rests o h one free =
+    let F : ℕ → Type 0 = λ s. is_free o free.st s ≡ true in
+    record {
+      st = free.st;
+      state = free.state;
+      none = nothing_out o h free.st free.state (λ session least most. let same : 1 ≡ session = omega (arith, one) in subst F same free.free);
+    }

@@ -3,7 +3,7 @@ use Rattle.std.proofs.Common.{◌≡◌, ℕ, suc, ◌+◌, ◌<◌, Bool, true,
 use Rattle.std.specs.Cmp.Lexicographic.{same_text}
 use Rattle.std.specs.Global.{Global}
 use Rattle.std.specs.declared.sync.Arc.{Arc}
-use Rattle.wc_model.specs.Workspace.History.{same_name}
+use Rattle.wc_model.specs.Workspace.States.{same_name}
 use Rattle.wc_core.specs.declared.store.Slot.{Slot}
 use Rattle.wc_core.specs.Holds.{has_slot, has_value, first_of, value_at, slot_place, next_place, filled, AreFeatures}
 use Rattle.wc_core.specs.Views.{value_of}

@@ -3,7 +3,9 @@ use Rattle.std.proofs.Common.{◌≡◌, ℕ, suc, Bool, true, false, not, ◌&&
 use Rattle.std.specs.Global.{Global}
 use Rattle.std.specs.declared.sync.Arc.{Arc}
 use Rattle.wc_model.specs.declared.inputs.Edit.{Edit}
-use Rattle.wc_model.specs.Workspace.History.{Opening, State, Row, same_name, in_store, has_key, has_row, with_key, stored, with_room, is_touched, untouched_keys, bound_kind}
+use Rattle.wc_model.specs.Workspace.Firsts.{change_first}
+use Rattle.wc_model.specs.Workspace.History.{bound_kind, key_with}
+use Rattle.wc_model.specs.Workspace.States.{Opening, State, Row, same_name, in_store, has_key, has_row, with_key, stored, with_room, is_touched, untouched_keys}
 use Rattle.wc_core.specs.declared.store.Slot.{Slot}
 use Rattle.wc_core.specs.Holds.{keys_of, row_of, emptied, slots_after, stamp_after, has_value, has_slot, filled, with_value}
 use Rattle.wc_core.specs.Views.{value_of}
@@ -64,7 +66,7 @@ key_there : {V : Type 0} (stamp : ℕ) (v : Option V) → has_key bound_kind sta
 key_there stamp None = refl
 key_there stamp (Some v) = rw (same_number stamp stamp refl) refl
 
-in_slots : {V : Type 0} (name : List ℕ) (stamp : ℕ) (slots : List (Slot V)) → in_store bound_kind name stamp (map (row_of stamp) slots) ≡ has_value name slots
+in_slots : {V : Type 0} (name : List ℕ) (stamp : ℕ) (slots : List (Slot V)) → in_store (key_with bound_kind name stamp) (map (row_of stamp) slots) ≡ has_value name slots
 in_slots name stamp [] = refl
 in_slots name stamp (slot ∷ slots) = rw (key_there stamp (value_of slot.value), in_slots name stamp slots) refl
 
@@ -72,16 +74,16 @@ not_key : {V : Type 0} (n stamp : ℕ) (v : Option V) → (stamp == n) ≡ false
 not_key n stamp None other = refl
 not_key n stamp (Some v) other = rw other refl
 
-not_stored : {V : Type 0} (name : List ℕ) (n stamp : ℕ) (slots : List (Slot V)) → (stamp == n) ≡ false → in_store bound_kind name n (map (row_of stamp) slots) ≡ false
+not_stored : {V : Type 0} (name : List ℕ) (n stamp : ℕ) (slots : List (Slot V)) → (stamp == n) ≡ false → in_store (key_with bound_kind name n) (map (row_of stamp) slots) ≡ false
 not_stored name n stamp [] other = refl
 not_stored name n stamp (slot ∷ slots) other = rw (not_key n stamp (value_of slot.value) other, not_stored name n stamp slots other) (and_never (same_name slot.name name))
 
-stored_by : {V : Type 0} (name : List ℕ) (n stamp : ℕ) (slots : List (Slot V)) (same : Bool) → (n == stamp) ≡ same → in_store bound_kind name n (map (row_of stamp) slots) ≡ (same && has_value name slots)
-stored_by name n stamp slots true is = ap (λ k. in_store bound_kind name k (map (row_of stamp) slots)) (eqb-true n stamp is) ∙ in_slots name stamp slots
+stored_by : {V : Type 0} (name : List ℕ) (n stamp : ℕ) (slots : List (Slot V)) (same : Bool) → (n == stamp) ≡ same → in_store (key_with bound_kind name n) (map (row_of stamp) slots) ≡ (same && has_value name slots)
+stored_by name n stamp slots true is = ap (λ k. in_store (key_with bound_kind name k) (map (row_of stamp) slots)) (eqb-true n stamp is) ∙ in_slots name stamp slots
 stored_by name n stamp slots false is = not_stored name n stamp slots (eqb_other n stamp is)
 
 -- A key is stored exactly where its stamp is the current one and there is a value.
-pub stored_is : {V : Type 0} (name : List ℕ) (n stamp : ℕ) (slots : List (Slot V)) → in_store bound_kind name n (map (row_of stamp) slots) ≡ (n == stamp && has_value name slots)
+pub stored_is : {V : Type 0} (name : List ℕ) (n stamp : ℕ) (slots : List (Slot V)) → in_store (key_with bound_kind name n) (map (row_of stamp) slots) ≡ (n == stamp && has_value name slots)
 stored_is name n stamp slots = stored_by name n stamp slots (n == stamp) refl
 
 -- A value that is kept.
@@ -105,21 +107,24 @@ and_some : (a b : Bool) → a ≡ true → (a && b) ≡ false → b ≡ false
 and_some true b p q = q
 and_some false b p q = cc
 
+abbrev keyed : List ℕ → ℕ → List Row → List Row
+keyed name stamp rows = change_first (λ (r : Row). same_name r.name name) (with_key (key_with bound_kind name stamp)) rows
+
 keys_filled : {V : Type 0} (stamp : ℕ) (v : Option V) → is_some v ≡ false → keys_of stamp v ++ (bound_kind, stamp) ∷ [] ≡ (bound_kind, stamp) ∷ []
 keys_filled stamp None p = refl
 keys_filled stamp (Some v) p = cc
 
 filled_row : {V : Type 0} (name : List ℕ) (stamp : ℕ) (value : Arc V Global) (slot : Slot V) (slots : List (Slot V)) (same : Bool) → same_name slot.name name ≡ same
     → (same ≡ true → is_some (value_of slot.value) ≡ false)
-    → with_key name bound_kind stamp (map (row_of stamp) slots) ≡ map (row_of stamp) (filled name value slots)
-    → with_key name bound_kind stamp (map (row_of stamp) (slot ∷ slots)) ≡ map (row_of stamp) (filled name value (slot ∷ slots))
+    → keyed name stamp (map (row_of stamp) slots) ≡ map (row_of stamp) (filled name value slots)
+    → keyed name stamp (map (row_of stamp) (slot ∷ slots)) ≡ map (row_of stamp) (filled name value (slot ∷ slots))
 unfolding row_with
 filled_row name stamp value slot slots true is empty rest =
     rw is (ap (λ ks. row_with slot.name ks ∷ map (row_of stamp) slots) (keys_filled stamp (value_of slot.value) (empty refl)))
 filled_row name stamp value slot slots false is empty rest = rw is (ap (λ rs. row_of stamp slot ∷ rs) rest)
 
 filled_rows : {V : Type 0} (name : List ℕ) (stamp : ℕ) (value : Arc V Global) (slots : List (Slot V)) → has_value name slots ≡ false
-    → with_key name bound_kind stamp (map (row_of stamp) slots) ≡ map (row_of stamp) (filled name value slots)
+    → keyed name stamp (map (row_of stamp) slots) ≡ map (row_of stamp) (filled name value slots)
 filled_rows name stamp value [] absent = refl
 filled_rows name stamp value (slot ∷ slots) absent =
     filled_row name stamp value slot slots (same_name slot.name name) refl (λ same. and_some (same_name slot.name name) _ same (or_left _ _ absent))
@@ -143,7 +148,7 @@ snoc_rows stamp [] slot = refl
 snoc_rows stamp (s ∷ slots) slot = ap (λ rs. row_of stamp s ∷ rs) (snoc_rows stamp slots slot)
 
 stored_case : {V : Type 0} (name : List ℕ) (stamp : ℕ) (value : Arc V Global) (slots : List (Slot V)) (there : Bool) → has_value name slots ≡ false
-    → (if there then with_key name bound_kind stamp (map (row_of stamp) slots) else with_room (map (row_of stamp) slots) ++ row_with name ((bound_kind, stamp) ∷ []) ∷ [])
+    → (if there then keyed name stamp (map (row_of stamp) slots) else with_room (map (row_of stamp) slots) ++ row_with name ((bound_kind, stamp) ∷ []) ∷ [])
     ≡ map (row_of stamp) (if there then filled name value slots else with_room slots ++ record { name = name; value = Some value } ∷ [])
 unfolding row_with
 stored_case name stamp value slots true absent = filled_rows name stamp value slots absent
@@ -151,8 +156,8 @@ stored_case name stamp value slots false absent =
     ap (λ rs. rs ++ row_with name ((bound_kind, stamp) ∷ []) ∷ []) (room_rows stamp slots) ∙ sym (snoc_rows stamp (with_room slots) (record { name = name; value = Some value }))
 
 pub stored_rows : {V : Type 0} (name : List ℕ) (stamp : ℕ) (value : Arc V Global) (slots : List (Slot V)) → has_value name slots ≡ false
-    → stored name bound_kind stamp (map (row_of stamp) slots) ≡ map (row_of stamp) (with_value name value slots)
+    → stored (key_with bound_kind name stamp) (map (row_of stamp) slots) ≡ map (row_of stamp) (with_value name value slots)
 unfolding row_with
 stored_rows name stamp value slots absent =
-    ap (λ b. if b then with_key name bound_kind stamp (map (row_of stamp) slots) else with_room (map (row_of stamp) slots) ++ row_with name ((bound_kind, stamp) ∷ []) ∷ []) (same_rows name slots stamp)
+    ap (λ b. if b then keyed name stamp (map (row_of stamp) slots) else with_room (map (row_of stamp) slots) ++ row_with name ((bound_kind, stamp) ∷ []) ∷ []) (same_rows name slots stamp)
     ∙ stored_case name stamp value slots (has_slot name slots) absent

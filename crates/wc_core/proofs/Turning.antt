@@ -1,22 +1,25 @@
 -- What comes next for an open ask, and what an answer owes.
 use Rattle.std.proofs.Common.{◌≡◌, ◌≢◌, ℕ, ◌+◌, ◌-◌, ◌≤◌, Bool, true, false, not, ◌&&◌, ◌||◌, ◌==◌, List, [], ◌∷◌, ◌++◌, length, map, Option, None, Some, MatchOption, is_none, refl, sym, ap, subst, ◌∙◌, arith, if◌then◌else◌}
 use Rattle.std.proofs.lemmas.List.{append-nil}
+use Rattle.std.specs.Option.{option_map, option_map_or}
 use Rattle.wc_model.specs.declared.entries.Entry.{Entry}
 use Rattle.wc_model.specs.declared.entries.Entry.TheVariants.{Answer}
 use Rattle.wc_model.specs.declared.values.Outcome.{Outcome}
 use Rattle.wc_model.specs.declared.values.Outcome.TheVariants.{Bound, Fault, Memory}
 use Rattle.wc_model.specs.Workspace.Closures.{has_kind}
 use Rattle.wc_model.specs.Workspace.Edits.{Setting, after, after_edits}
-use Rattle.wc_model.specs.Workspace.History.{Opening, State, Run, Ask, Chain, IsOutcome, is_session, own_run, ask_at, with_ask, home_of, in_store, stamp_at, same_name, within_reach, is_memory, bound_kind}
+use Rattle.wc_model.specs.Workspace.History.{Chain, IsOutcome, is_memory, key_with, bound_kind}
+use Rattle.wc_model.specs.Workspace.States.{Opening, Key, State, Run, Ask, is_session, is_stored, own_run, ask_at, with_ask, home_of, in_store, key_of, same_key, within_reach}
 use Rattle.wc_model.proofs.Sharing.{asked_same, asked_other, length-with_ask, LeavesOthers}
 use Rattle.wc_core.specs.Features.{Tells}
 use Rattle.wc_core.specs.Fits.{FitsTicket}
 use Rattle.wc_core.specs.Holds.{Basis, Stock, opening_of, entries_needed, ask_needs, is_reached, IsAway, WorkIs, IsCore}
 use Rattle.wc_core.specs.Turns.{Turn, answers, starts, waits, next_turn, turn_for, at_home, unless_running, runner_of_key, IsTurn, OutcomeIs}
-use Rattle.wc_core.specs.Views.{Known, KnownTicket, ask_of}
+use Rattle.wc_core.specs.Views.{Known, KnownTicket, ask_of, ask_with}
 use Rattle.wc_core.proofs.Cores.{known, moved, restock, work_on, core_asked, IsResting}
 use Rattle.wc_core.proofs.Goings.{Goes}
-use Rattle.wc_core.proofs.OpenAsks.{some_same, needs_with, needs_at, needs_two, pinned_with, session_within}
+use Rattle.wc_model.proofs.StepLemmas.{some_same}
+use Rattle.wc_core.proofs.OpenAsks.{needed_same, needs_with, needs_at, needs_two, pinned_with, session_within}
 use Rattle.wc_core.proofs.Steps.{step_answer}
 use Rattle.wc_core.proofs.Stored.{same_number, stored_is}
 
@@ -28,7 +31,7 @@ if_false : (b : Bool) (x y : Turn) → b ≡ false → (if b then x else y) ≡ 
 if_false false x y p = refl
 if_false true x y p = cc
 
-missing_if : (b : Bool) (k : ℕ) → b ≡ false → (if b then None else Some k) ≡ Some k
+missing_if : (b : Bool) (k : ℕ) → b ≡ false → (if not b then Some k else None) ≡ Some k
 missing_if false k p = refl
 missing_if true k p = cc
 
@@ -46,28 +49,28 @@ turn_by true runner = answers
 turn_by false None = starts bound_kind
 turn_by false (Some session) = waits session
 
-key_case : (run : Run) (there : Bool) → run.kind ≡ bound_kind → unless_running bound_kind [] (run ∷ []) (if there then Some run.session else None) ≡ waits run.session
+key_case : (run : Run) (there : Bool) → run.key.kind ≡ bound_kind → unless_running bound_kind [] (run ∷ []) (option_map (λ (r : Run). r.session) (if there then Some run else None)) ≡ waits run.session
 key_case run true kind = refl
-key_case run false kind = ap (λ k. waits (if k == bound_kind then run.session else 0)) kind
+key_case run false kind = ap (λ k. waits (option_map_or (λ (r : Run). r.session) (if k == bound_kind then Some run else None) 0)) kind
 
-out_turn : {V : Type 0} (o : Opening) (st : State) (d : Stock V) (long : ℕ) (runner : Option ℕ) (name : List ℕ) (n : ℕ)
+out_turn : {V : Type 0} (o : Opening) (st : State) (d : Stock V) (long : ℕ) (runner : Option ℕ) (key : Key)
     → WorkIs o st d long runner → st.home ≡ (bound_kind, d.home) ∷ []
-    → unless_running bound_kind (home_of bound_kind st.home) st.out (runner_of_key bound_kind name n st.out) ≡ turn_by false runner
-out_turn o st d long None name n work home =
-    ap (λ out. unless_running bound_kind (home_of bound_kind st.home) out (runner_of_key bound_kind name n out)) work.out_is
+    → unless_running bound_kind (home_of bound_kind st.home) st.out (runner_of_key key st.out) ≡ turn_by false runner
+out_turn o st d long None key work home =
+    ap (λ out. unless_running bound_kind (home_of bound_kind st.home) out (runner_of_key key out)) work.out_is
     ∙ ap (λ hs. at_home bound_kind (home_of bound_kind hs) []) (home ∙ ap (λ l. (bound_kind, l) ∷ []) work.home_is)
-out_turn o st d long (Some session) name n work home =
-    ap (λ out. unless_running bound_kind (home_of bound_kind st.home) out (runner_of_key bound_kind name n out)) work.out_is
-    ∙ ap (λ hs. unless_running bound_kind (home_of bound_kind hs) (work.run ∷ []) (runner_of_key bound_kind name n (work.run ∷ []))) (home ∙ ap (λ l. (bound_kind, l) ∷ []) work.home_is)
-    ∙ key_case work.run (work.run.kind == bound_kind && same_name work.run.name name && work.run.stamp == n) work.kind_is
+out_turn o st d long (Some session) key work home =
+    ap (λ out. unless_running bound_kind (home_of bound_kind st.home) out (runner_of_key key out)) work.out_is
+    ∙ ap (λ hs. unless_running bound_kind (home_of bound_kind hs) (work.run ∷ []) (runner_of_key key (work.run ∷ []))) (home ∙ ap (λ l. (bound_kind, l) ∷ []) work.home_is)
+    ∙ key_case work.run (same_key work.run.key key) work.kind_is
     ∙ ap waits work.session_is
 
 pub reach_is : {V : Type 0} (chain : Chain) (feature : ℕ → Setting → List ℕ → V → Type 0) (b : Basis) (h : List Entry) (d : Stock V) (t : KnownTicket V) (core : IsCore chain feature b h d) → IsResting feature b core.st d t
     → (t.memory || within_reach (opening_of b) core.st (ask_of t) bound_kind) ≡ is_reached t d.stamp d.slots
 reach_is chain feature b h d t core resting =
     let has : Bool = has_kind bound_kind (ask_of t).kinds in
-    ap (λ n. t.memory || (has || in_store bound_kind t.name n core.st.rows)) (sym resting.asked.is_open.stamp_is)
-    ∙ ap (λ rows. t.memory || (has || in_store bound_kind t.name t.stamp rows)) core.rows
+    ap (λ n. t.memory || (has || in_store (key_with bound_kind t.name n) core.st.rows)) (sym resting.asked.is_open.stamp_is)
+    ∙ ap (λ rows. t.memory || (has || in_store (key_with bound_kind t.name t.stamp) rows)) core.rows
     ∙ ap (λ there. t.memory || (has || there)) (stored_is t.name t.stamp d.stamp d.slots)
 
 turn_case : {V : Type 0} (chain : Chain) (feature : ℕ → Setting → List ℕ → V → Type 0) (b : Basis) (h : List Entry) (d : Stock V) (t : KnownTicket V) (core : IsCore chain feature b h d) (reached : Bool)
@@ -78,7 +81,7 @@ turn_case chain feature b h d t core false is =
     let o : Opening = opening_of b in
     if_false _ _ _ is
     ∙ ap (turn_for o core.st (ask_of t)) (missing_if (within_reach o core.st (ask_of t) bound_kind) bound_kind (or_right t.memory _ is))
-    ∙ out_turn o core.st d (length h) d.runner t.name (stamp_at o core.st bound_kind t.at) core.work core.home
+    ∙ out_turn o core.st d (length h) d.runner (key_of o core.st (ask_of t) bound_kind) core.work core.home
 
 turn_is : {V : Type 0} (chain : Chain) (feature : ℕ → Setting → List ℕ → V → Type 0) (b : Basis) (h : List Entry) (d : Stock V) (t : KnownTicket V) (core : IsCore chain feature b h d) → IsResting feature b core.st d t
     → next_turn (opening_of b) core.st (ask_of t) ≡ turn_by (is_reached t d.stamp d.slots) d.runner
@@ -156,9 +159,9 @@ waits_alone chain feature b h d t k session view core fits runner one =
 owed_case : {V : Type 0} (feature : ℕ → Setting → List ℕ → V → Type 0) (b : Basis) (st : State) (d : Stock V) (t : KnownTicket V) (long : ℕ) (runner : Option ℕ)
     → IsResting feature b st d t → WorkIs (opening_of b) st d long runner → entries_needed (ask_of t) ≤ d.owed
 owed_case feature b st d t long None resting work =
-    omega (arith, work.owes, needs_at t.session st.asks, ap ask_needs resting.asked.asked)
+    omega (arith, work.owes, needs_at t.session st.asks, ap ask_needs resting.asked.asked, needed_same resting.asked.is_open)
 owed_case feature b st d t long (Some s) resting work =
-    omega (arith, work.owes, needs_two t.session s st.asks resting.asked.place (run_apart (opening_of b) st d long t.session s work resting.rests), ap ask_needs resting.asked.asked, ap ask_needs work.asked, work.needs)
+    omega (arith, work.owes, needs_two t.session s st.asks resting.asked.place (run_apart (opening_of b) st d long t.session s work resting.rests), ap ask_needs resting.asked.asked, needed_same resting.asked.is_open, ap ask_needs work.asked, work.needs)
 
 one_needed : (settled : Bool) → 1 ≤ (if settled then 1 else 3)
 one_needed true = omega arith
@@ -214,10 +217,12 @@ answer_plain {V} chain feature b h d t k entries outcome view core fits turn tol
     let owed = owed_case feature b core.st d t (length h) d.runner resting core.work in
     let least = one_needed (t.memory || has_kind bound_kind (ask_of t).kinds) in
     let needs = needs_with t.session core.st.asks None resting.asked.place in
-    let mine : ask_needs (ask_at t.session core.st.asks) ≡ entries_needed (ask_of t) = ap ask_needs resting.asked.asked in
+    let mine : ask_needs (ask_at t.session core.st.asks) ≡ entries_needed (ask_of t) = ap ask_needs resting.asked.asked ∙ needed_same resting.asked.is_open in
     let d' : Stock V = restock d d.slots d.home d.runner (d.owed - entries_needed (ask_of t)) d.room in
-    let stepped = step_answer o core.st (ask_of t) t.session outcome resting.asked.is_open.ask resting.rests
-    (right_case chain t.memory (within_reach o core.st (ask_of t) bound_kind) (after b.image t.at h) t.name outcome (reach_is chain feature b h d t core resting ∙ reached) own) in
+    let ask : Ask = ask_with t resting.asked.is_open.kinds in
+    let reach : within_reach o core.st ask bound_kind ≡ within_reach o core.st (ask_of t) bound_kind = ap (λ has. has || is_stored o core.st (ask_of t) bound_kind) (resting.asked.is_open.same bound_kind) in
+    let stepped = step_answer o core.st ask t.session outcome resting.asked.is_open.ask resting.rests
+    (right_case chain t.memory (within_reach o core.st ask bound_kind) (after b.image t.at h) t.name outcome (ap (λ w. t.memory || w) reach ∙ reach_is chain feature b h d t core resting ∙ reached) own) in
     let leaves : LeavesOthers t.session core.st new = record { asks = λ s other. asked_other s t.session None core.st.asks other; runs = λ s other. refl; more = []; edits = sym (append-nil core.st.edits) } in
     let work = work_on o core.st new d d' (length h) (length h + 1) d.runner refl refl (omega arith) (omega (arith, needs, mine, owed))
     (λ s run a out own at. let other : s ≢ t.session = λ same. (let there = sym (own_same t.session run (own ∙ same)) ∙ ap (own_run t.session) (sym out) ∙ resting.rests in cc) in asked_other s t.session None core.st.asks other ∙ at)

@@ -4,7 +4,7 @@ use Rattle.std.proofs.lemmas.Bool.Decides.{leb_tells}
 use Rattle.std.specs.Cmp.Lexicographic.{same_text}
 use Rattle.std.specs.Global.{Global}
 use Rattle.std.specs.declared.sync.Arc.{Arc}
-use Rattle.wc_model.specs.Workspace.History.{same_name, with_room}
+use Rattle.wc_model.specs.Workspace.States.{same_name, with_room}
 use Rattle.wc_core.specs.declared.store.Slot.{Slot}
 use Rattle.wc_core.specs.Holds.{filled, AreFeatures}
 use Rattle.wc_core.specs.Views.{value_of}

@@ -1,5 +1,5 @@
 -- What the calls of a core answer.
-use Rattle.std.specs.Prelude.{ℕ, ◌+◌, true, false, List, [], ◌∷◌, ◌++◌, length, Option, None, Some, ◌≡◌, ◌≢◌, ◌≤◌, ◌==◌, Bool, is_none}
+use Rattle.std.specs.Prelude.{ℕ, ◌+◌, true, false, List, [], ◌∷◌, ◌++◌, length, Option, None, Some, ◌≡◌, ◌≢◌, ◌==◌, Bool, is_none}
 use Rattle.wc_model.specs.declared.entries.Entry.{Entry}
 use Rattle.wc_model.specs.declared.entries.Entry.TheVariants.{Edit as EditEntry, NoFact, Pin, Start, Finish, Answer, List as ListEntry}
 use Rattle.wc_model.specs.declared.entries.End.{End}
@@ -9,7 +9,8 @@ use Rattle.wc_model.specs.declared.entries.Listing.{Listing}
 use Rattle.wc_model.specs.declared.inputs.Edit.{Edit}
 use Rattle.wc_model.specs.declared.inputs.Edit.TheVariants.{Drop}
 use Rattle.wc_model.specs.Workspace.Edits.{Setting, after, edits_of}
-use Rattle.wc_model.specs.Workspace.History.{Opening, State, Chain, state_after, is_free, can_edit, is_live, home_of, stamp_at, count_of, bound_kind}
+use Rattle.wc_model.specs.Workspace.History.{Chain, state_after, can_edit, is_live, bound_kind}
+use Rattle.wc_model.specs.Workspace.States.{Opening, State, is_free, home_of, stamp_at, count_of}
 use Rattle.wc_core.specs.declared.answers.Edited.{Edited}
 use Rattle.wc_core.specs.declared.answers.Edited.TheVariants.{Done, NoFact as NotLive}
 use Rattle.wc_core.specs.Fits.{FitsTicket, FitsFlight, FitsLanded}
@@ -21,10 +22,6 @@ pub record LeavesFree (o : Opening) (history : List Entry) (session : ℕ) : Typ
   pub st : State
   pub state : state_after o history ≡ Some st
   pub free : is_free o st session ≡ true
-
--- No session has an open ask.
-abbrev pub LeavesAllFree : Opening → List Entry → Type 0
-LeavesAllFree o history = (session : ℕ) → 1 ≤ session → session ≤ o.sessions → LeavesFree o history session
 
 -- What other sessions hold goes on fitting after an entry of a session, and who was free stays free.
 pub record KeepsOthers {V : Type 0} (feature : ℕ → Setting → List ℕ → V → Type 0) (old new : Known) (session : ℕ) : Type 0 where

@@ -5,18 +5,18 @@ use Rattle.std.specs.declared.sync.Arc.{Arc}
 use Rattle.wc_model.specs.declared.elf_image.Image.{Image}
 use Rattle.wc_model.specs.declared.entries.Entry.{Entry}
 use Rattle.wc_model.specs.declared.flow_facts.Fact.{Fact}
-use Rattle.wc_model.specs.declared.flow_facts.Fact.TheVariants.{Checksum}
 use Rattle.wc_model.specs.declared.kinds.Describe.{Describe}
 use Rattle.wc_model.specs.declared.kinds.Part.{Part}
 use Rattle.wc_model.specs.declared.kinds.Part.TheVariants.{Steer, Loops, Limits, Cache, Cycles}
 use Rattle.wc_model.specs.declared.machine.Hardware.{Hardware}
 use Rattle.wc_model.specs.Workspace.Closures.{has_kind, last_touch}
-use Rattle.wc_model.specs.Workspace.Edits.{Setting, bare, all_edited}
-use Rattle.wc_model.specs.Workspace.History.{Opening, State, Row, Run, Ask, Chain, is_session, ask_at, bound_kind, same_name, with_room}
+use Rattle.wc_model.specs.Workspace.Edits.{Setting, bare, all_edited, is_checksum}
+use Rattle.wc_model.specs.Workspace.History.{Chain, bound_kind}
+use Rattle.wc_model.specs.Workspace.States.{Opening, State, Row, Run, Ask, is_session, ask_at, same_name, with_room}
 use Rattle.wc_model.proofs.Replays.{Kept}
 use Rattle.wc_core.specs.declared.store.Slot.{Slot}
 use Rattle.wc_core.specs.Features.{Each}
-use Rattle.wc_core.specs.Views.{KnownTicket, value_of}
+use Rattle.wc_core.specs.Views.{KnownTicket, kinds_held, value_of}
 
 abbrev pub all_parts : List Part
 all_parts = Steer ∷ Loops ∷ Limits ∷ Cache ∷ Cycles ∷ []
@@ -43,20 +43,10 @@ shared_opening image hardware facts sessions =
 abbrev pub plain_opening : Image → Hardware → List Fact → Opening
 plain_opening image hardware facts = shared_opening image hardware facts 1
 
--- A checksum alone says nothing of what the program may do.
-abbrev pub is_plain_fact : Fact → Bool
-is_plain_fact (Checksum name value) = false
-is_plain_fact _ = true
-
--- Facts with their numbers, from a first one on.
-abbrev pub numbered_from : ℕ → List Fact → List (ℕ × Fact)
-numbered_from number [] = []
-numbered_from number (f ∷ fs) = (number, f) ∷ numbered_from (number + 1) fs
-
--- The last count at which a fact touched anything, where each is added by an edit of its own.
-abbrev pub stamp_from : ℕ → ℕ → List Fact → ℕ
-stamp_from stamp count [] = stamp
-stamp_from stamp count (f ∷ fs) = stamp_from (if is_plain_fact f then count + 1 else stamp) (count + 1) fs
+-- The number of the last fact that isn't a checksum alone, which says nothing of what the program may do; or else `stamp`.
+abbrev pub stamp_from : ℕ → List (ℕ × Fact) → ℕ
+stamp_from stamp [] = stamp
+stamp_from stamp (f ∷ fs) = stamp_from (if is_checksum f.1 then stamp else f.0) fs
 
 abbrev pub keys_of : {V : Type 0} → ℕ → Option V → List (ℕ × ℕ)
 keys_of stamp None = []
@@ -114,7 +104,7 @@ value_at name (slot ∷ slots) = if same_name slot.name name then first_of (valu
 
 -- Whether an ask can answer: a run of it found no memory, it has the bound, or the bound is stored under its own stamp.
 abbrev pub is_reached : {V : Type 0} → KnownTicket V → ℕ → List (Slot V) → Bool
-is_reached t stamp slots = t.memory || (has_kind bound_kind (map (λ h. h.0) t.had) || (t.stamp == stamp && has_value t.name slots))
+is_reached t stamp slots = t.memory || (has_kind bound_kind (kinds_held t) || (t.stamp == stamp && has_value t.name slots))
 
 abbrev pub AreFeatures : {V : Type 0} → (List ℕ → V → Type 0) → List (Slot V) → Type 0
 AreFeatures feature [] = Unit {0}
@@ -158,12 +148,12 @@ pub record IsAway {V : Type 0} (o : Opening) (st : State) (d : Stock V) (long se
   pub out_is : st.out ≡ run ∷ []
   pub home_is : d.home ≡ []
   pub session_is : run.session ≡ session
-  pub kind_is : run.kind ≡ bound_kind
+  pub kind_is : run.key.kind ≡ bound_kind
   pub known : is_session o session ≡ true
   pub ask : Ask
   pub asked : ask_at session st.asks ≡ Some ask
   pub needs : entries_needed ask ≡ 3
-  pub absent : run.stamp ≡ d.stamp → has_value run.name d.slots ≡ false
+  pub absent : run.key.stamp ≡ d.stamp → has_value run.key.name d.slots ≡ false
   pub few : run.runs ≤ long
   pub owes : d.owed + 1 ≡ asks_need st.asks
 

@@ -1,11 +1,13 @@
 -- What comes next for an open ask.
-use Rattle.std.specs.Prelude.{ℕ, Bool, true, false, ◌&&◌, ◌||◌, ◌==◌, if◌then◌else◌, List, [], ◌∷◌, Option, None, Some, ◌≡◌}
+use Rattle.std.specs.Prelude.{ℕ, Bool, true, false, not, ◌||◌, ◌==◌, if◌then◌else◌, List, [], ◌∷◌, find, Option, None, Some, ◌≡◌}
+use Rattle.std.specs.Option.{option_map, option_map_or}
 use Rattle.wc_model.specs.declared.entries.Entry.{Entry}
 use Rattle.wc_model.specs.declared.values.Outcome.{Outcome}
 use Rattle.wc_model.specs.declared.values.Outcome.TheVariants.{Memory}
 use Rattle.wc_model.specs.Workspace.Closures.{order_of}
 use Rattle.wc_model.specs.Workspace.Edits.{Setting}
-use Rattle.wc_model.specs.Workspace.History.{Opening, State, Run, Ask, Chain, state_after, same_name, home_of, within_reach, stamp_at, bound_kind}
+use Rattle.wc_model.specs.Workspace.History.{Chain, state_after, bound_kind}
+use Rattle.wc_model.specs.Workspace.States.{Opening, Key, State, Run, Ask, same_key, key_of, home_of, within_reach}
 
 pub data Turn : Type 0 where
   answers : Turn
@@ -14,18 +16,14 @@ pub data Turn : Type 0 where
 
 -- The first kind in the registry's order that isn't within reach.
 abbrev pub first_missing : Opening → State → Ask → List ℕ → Option ℕ
-first_missing o st ask [] = None
-first_missing o st ask (k ∷ ks) = if within_reach o st ask k then first_missing o st ask ks else Some k
+first_missing o st ask kinds = find (λ k. not (within_reach o st ask k)) kinds
 
 -- The session of the run of a key, and that of the earliest run of a kind.
-abbrev pub runner_of_key : ℕ → List ℕ → ℕ → List Run → Option ℕ
-runner_of_key kind name stamp [] = None
-runner_of_key kind name stamp (r ∷ rs) =
-    if r.kind == kind && same_name r.name name && r.stamp == stamp then Some r.session else runner_of_key kind name stamp rs
+abbrev pub runner_of_key : Key → List Run → Option ℕ
+runner_of_key key out = option_map (λ r. r.session) (find (λ r. same_key r.key key) out)
 
 abbrev pub runner_of_kind : ℕ → List Run → ℕ
-runner_of_kind kind [] = 0
-runner_of_kind kind (r ∷ rs) = if r.kind == kind then r.session else runner_of_kind kind rs
+runner_of_kind kind out = option_map_or (λ r. r.session) (find (λ r. r.key.kind == kind) out) 0
 
 abbrev pub at_home : ℕ → List ℕ → List Run → Turn
 at_home kind [] out = waits (runner_of_kind kind out)
@@ -38,7 +36,7 @@ unless_running kind home out (Some session) = waits session
 abbrev pub turn_for : Opening → State → Ask → Option ℕ → Turn
 turn_for o st ask None = answers
 turn_for o st ask (Some kind) =
-    unless_running kind (home_of kind st.home) st.out (runner_of_key kind ask.name (stamp_at o st kind ask.at) st.out)
+    unless_running kind (home_of kind st.home) st.out (runner_of_key (key_of o st ask kind) st.out)
 
 -- An ask answers where one of its runs found no memory or the bound is within reach. Else it is the turn of the first
 -- kind out of reach: it waits where a run of that key is out or no work of the kind is at home, and else it starts.

@@ -4,14 +4,14 @@ use Rattle.std.specs.Global.{Global}
 use Rattle.std.specs.declared.sync.Arc.{Arc}
 use Rattle.wc_model.specs.declared.entries.Entry.{Entry}
 use Rattle.wc_model.specs.Workspace.Edits.{Setting}
-use Rattle.wc_model.specs.Workspace.History.{Opening, Ask}
+use Rattle.wc_model.specs.Workspace.States.{Opening, Ask}
 
 pub record Known : Type 0 where
   pub opening : Opening
   pub history : List Entry
 
--- `stamp`: that of the bound at its count. `had`: the kinds that the ask has, with their values. `memory`: whether a run of the ask found no memory. `spare`:
--- how many copies of the name are at hand.
+-- `stamp`: that of the bound at its count. `had`: the kinds that the ask has, with their values. `memory`: whether a run
+-- of the ask found no memory. `spare`: how many copies of the name are at hand.
 pub record KnownTicket (V : Type 0) : Type 0 where
   pub session : ℕ
   pub name : List ℕ
@@ -40,8 +40,15 @@ pub record KnownLanded (V : Type 0) : Type 0 where
 abbrev pub landed_of : {V : Type 0} → KnownTicket V → ℕ → ℕ → ℕ → Option V → KnownLanded V
 landed_of t kind stamp runs gave = record { ticket = t; kind = kind; stamp = stamp; runs = runs; gave = gave }
 
+-- An ask with the ticket's name and count that has some kinds, and the one that has the ticket's.
+abbrev pub ask_with : {V : Type 0} → KnownTicket V → List ℕ → Ask
+ask_with t kinds = record { name = t.name; at = t.at; kinds = kinds; memory = t.memory }
+
+abbrev pub kinds_held : {V : Type 0} → KnownTicket V → List ℕ
+kinds_held t = map (λ h. h.0) t.had
+
 abbrev pub ask_of : {V : Type 0} → KnownTicket V → Ask
-ask_of t = record { name = t.name; at = t.at; kinds = map (λ h. h.0) t.had; memory = t.memory }
+ask_of t = ask_with t (kinds_held t)
 
 -- The one value that an ask may have while there is one kind.
 abbrev pub held : {V : Type 0} → Option (Arc V Global) → List (ℕ × V)

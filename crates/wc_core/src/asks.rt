@@ -1,6 +1,7 @@
 ghost use Rattle.std.specs.Prelude.{ℕ, ◌≡◌, ◌∷◌, [], ◌++◌, ◌+◌, ◌*◌, true, false, IfOk, OnErr, MatchResult, MatchOption, length, Some, None};
 ghost use Rattle.wc_model.specs.Workspace.Edits.{after};
-ghost use Rattle.wc_model.specs.Workspace.History.{State, IsLegal, state_after};
+ghost use Rattle.wc_model.specs.Workspace.History.{IsLegal, state_after};
+ghost use Rattle.wc_model.specs.Workspace.States.{State};
 ghost use Rattle.wc_core.specs.Answers.{LeavesFree, KeepsOthers, IsPinned, IsDone, IsStarted, IsBusy, IsGiven, is_current};
 ghost use Rattle.wc_core.specs.Features.{Each};
 ghost use Rattle.wc_core.specs.Fits.{EachFeature, FitsTicket, FitsFlight, FitsLanded, is_settled};

@@ -5,13 +5,13 @@ ghost use Rattle.wc_core.specs.Answers.{LeavesFree, KeepsOthers, EditIs, IsAccep
 ghost use Rattle.wc_core.specs.Holds.{stamp_after};
 
 use crate::answers::Edited;
-use crate::changes::{copy_facts, edited_inputs, is_touched, missing_fact};
+use crate::changes::{edited_inputs, is_touched, missing_fact};
 use crate::shared::Core;
 use crate::store::empty_if;
 use crate::work::Work;
 use std::alloc::AllocError;
 use std::sync::Arc;
-use wc_model::{Edit, Entry, Listing};
+use wc_model::{Edit, Entry, Listing, copy_facts};
 
 fn later_stamp(touched: bool, count: u64, stamp: u64) -> u64
     ensures { result ≡ stamp_after touched count stamp }

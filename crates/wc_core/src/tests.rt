@@ -11,7 +11,8 @@ use std::alloc::{AllocError, Global};
 use std::sync::Arc;
 use std::test::Fail;
 use wc_model::{
-    Asked, Cycles, Describe, Edit, Fact, Hardware, Image, Inputs, Kind, Outcome, Part, Table, Text,
+    Asked, Describe, Edit, Fact, Hardware, Image, Inputs, Kind, Outcome, Part, Table, Text,
+    default_hardware,
 };
 
 // A work whose value is the number of its runs, and beside it its inputs: a thousand for each cycle of `alu`, and a
@@ -111,23 +112,9 @@ fn describes(alloc: Global) -> Result<Vec<Describe>, AllocError>
 }
 
 fn plain_hardware(alu: u16) -> Hardware {
-    Hardware {
-        cycles: Cycles {
-            alu,
-            mul: 1,
-            div: 1,
-            load: 1,
-            store: 1,
-            multi: 1,
-            branch: 1,
-            system: 1,
-            taken: 0,
-            per_register: 0,
-            hit: 0,
-            miss: 0,
-        },
-        cache: None,
-    }
+    let Hardware { mut cycles, cache } = default_hardware();
+    cycles.alu = alu;
+    Hardware { cycles, cache }
 }
 
 fn works_of(alloc: Global, failing: u64) -> Result<Vec<Counter>, AllocError>
@@ -256,7 +243,6 @@ fn ask_twice<W: Work>(alloc: Global, works: Vec<W>) -> Result<(Outcome, Outcome,
     let mut core = core_over(alloc, works, 1)?;
     let first = ask(&mut core, alloc, b"f")?;
     let second = ask(&mut core, alloc, b"f")?;
-    core.history();
     let (_history, works) = core.close();
     Ok((first.outcome, second.outcome, works[0].runs()))
 }

@@ -2,7 +2,7 @@ ghost use Rattle.std.specs.Prelude.{ℕ, ◌≡◌, ◌+◌, ◌<◌, List, IfSo
 ghost use Rattle.wc_core.specs.Fits.{FitsFlight, FitsLanded};
 ghost use Rattle.wc_core.specs.Views.{given, AreCopies};
 ghost use Rattle.wc_model.specs.declared.entries.Entry.{Entry};
-ghost use Rattle.wc_model.specs.Workspace.History.{Opening};
+ghost use Rattle.wc_model.specs.Workspace.States.{Opening};
 
 use crate::work::{Given, Job, Work};
 use std::alloc::{AllocError, Global};

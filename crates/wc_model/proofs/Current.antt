@@ -1,51 +1,22 @@
 -- Inputs between which no edit touched some parts: what is lawful for one of them is so for the other.
-use Rattle.std.proofs.Common.{◌≡◌, ℕ, zero, suc, ◌+◌, ◌≤◌, Bool, true, false, ◌&&◌, ◌==◌, List, [], ◌∷◌, ◌++◌, length, take, drop, Option, None, Some, refl, sym, ap, subst, ◌∙◌, arith, eqb-true, eq-eqb, if◌then◌else◌}
+use Rattle.std.proofs.Common.{◌≡◌, ℕ, zero, suc, ◌+◌, ◌≤◌, Bool, true, false, List, [], ◌∷◌, ◌++◌, length, take, drop, refl, sym, ap, subst, ◌∙◌, arith, if◌then◌else◌}
 use Rattle.wc_model.specs.declared.elf_image.Image.{Image}
 use Rattle.wc_model.specs.declared.inputs.Edit.{Edit}
 use Rattle.wc_model.specs.declared.kinds.Part.{Part}
 use Rattle.wc_model.specs.declared.kinds.Part.TheVariants.{Steer, Loops, Limits, Cache as CachePart, Cycles as CyclesPart}
-use Rattle.wc_model.specs.declared.machine.Cache.{Cache}
-use Rattle.wc_model.specs.declared.machine.Cycles.{Cycles}
-use Rattle.wc_model.specs.declared.machine.StartState.{StartState}
-use Rattle.wc_model.specs.declared.machine.StartState.TheVariants.{Empty, Any}
 use Rattle.wc_model.specs.Workspace.Closures.{touches_any, last_touch}
-use Rattle.wc_model.specs.Workspace.Edits.{Setting, bare, edited, all_edited, after_edits, same_cycles, same_start, same_cache, AgreeOn, AgreeOnAll}
+use Rattle.wc_model.specs.Workspace.Edits.{Setting, bare, edited, all_edited, after_edits, AgreeOn, AgreeOnAll}
 use Rattle.wc_model.proofs.Replays.{all_edited-append, last_touch-append}
 use Rattle.wc_model.proofs.Untouched.{agree_untouched}
 
 -- Agreement goes both ways.
 
-eqb_back : (n m : ℕ) → (n == m) ≡ true → (m == n) ≡ true
-eqb_back n m is = eq-eqb m n (sym (eqb-true n m is))
-
-and_both : (a b c d : Bool) → (a ≡ true → c ≡ true) → (b ≡ true → d ≡ true) → (a && b) ≡ true → (c && d) ≡ true
-and_both true b c d f g p = rw (f refl) (g p)
-and_both false b c d f g p = cc
-
-cycles_back : (a b : Cycles) → same_cycles a b ≡ true → same_cycles b a ≡ true
-cycles_back a b =
-    and_both _ _ _ _ (and_both _ _ _ _ (and_both _ _ _ _ (and_both _ _ _ _ (and_both _ _ _ _ (and_both _ _ _ _ (and_both _ _ _ _ (and_both _ _ _ _ (and_both _ _ _ _ (and_both _ _ _ _ (and_both _ _ _ _
-    (eqb_back a.alu b.alu) (eqb_back a.mul b.mul)) (eqb_back a.div b.div)) (eqb_back a.load b.load)) (eqb_back a.store b.store)) (eqb_back a.multi b.multi)) (eqb_back a.branch b.branch)) (eqb_back a.system b.system)) (eqb_back a.taken b.taken)) (eqb_back a.per_register b.per_register)) (eqb_back a.hit b.hit)) (eqb_back a.miss b.miss)
-
-start_back : (a b : StartState) → same_start a b ≡ true → same_start b a ≡ true
-start_back Empty Empty is = refl
-start_back Any Any is = refl
-start_back Empty Any is = is
-start_back Any Empty is = is
-
-cache_back : (a b : Option Cache) → same_cache a b ≡ true → same_cache b a ≡ true
-cache_back None None is = refl
-cache_back None (Some b) is = is
-cache_back (Some a) None is = is
-cache_back (Some a) (Some b) is =
-    and_both _ _ _ _ (and_both _ _ _ _ (and_both _ _ _ _ (eqb_back a.sets b.sets) (eqb_back a.ways b.ways)) (eqb_back a.line b.line)) (start_back a.start b.start) is
-
 agree_back : (a b : Setting) (part : Part) → AgreeOn a b part → AgreeOn b a part
 agree_back a b Steer agree = sym agree
 agree_back a b Loops agree = sym agree
 agree_back a b Limits agree = sym agree
-agree_back a b CachePart agree = cache_back a.hardware.cache b.hardware.cache agree
-agree_back a b CyclesPart agree = cycles_back a.hardware.cycles b.hardware.cycles agree
+agree_back a b CachePart agree = sym agree
+agree_back a b CyclesPart agree = sym agree
 
 pub agree_all_back : (a b : Setting) (parts : List Part) → AgreeOnAll a b parts → AgreeOnAll b a parts
 agree_all_back a b [] agree = sym agree

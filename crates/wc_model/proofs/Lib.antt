@@ -1,11 +1,14 @@
 pub mod Current
 pub mod Greatest
+pub mod HardwareLemmas
 pub mod Leaving
 pub mod Orders
 pub mod Places
 pub mod Replays
+pub mod RestLemmas
 pub mod Searching
 pub mod Sharing
 pub mod Starting
 pub mod SteeringLemmas
+pub mod StepLemmas
 pub mod Untouched

@@ -1,22 +1,42 @@
 -- A legal history grows by one entry at a time.
-use Rattle.std.proofs.Common.{◌≡◌, ℕ, ◌+◌, ◌≤◌, List, [], ◌∷◌, ◌++◌, length, take, drop, Option, Some, refl, sym, ap, ◌∙◌, append_assoc, arith, subst, suc, if◌then◌else◌}
-use Rattle.std.proofs.lemmas.List.{drop-append-le, take-append-le, append-nil, length-take}
+use Rattle.std.proofs.Common.{◌≡◌, ℕ, ◌+◌, ◌≤◌, List, [], ◌∷◌, ◌++◌, length, take, drop, Option, None, Some, refl, sym, ap, ◌∙◌, append_assoc, arith, subst, suc, if◌then◌else◌}
+use Rattle.std.proofs.lemmas.List.{drop-append-le, take-append-le, append-nil, length-map, length-take}
+use Rattle.std.proofs.lemmas.List.Concat.{flat_map-append}
 use Rattle.wc_model.specs.declared.elf_image.Image.{Image}
 use Rattle.wc_model.specs.declared.entries.Entry.{Entry}
 use Rattle.wc_model.specs.declared.flow_facts.Fact.{Fact}
 use Rattle.wc_model.specs.declared.inputs.Edit.{Edit}
 use Rattle.wc_model.specs.declared.kinds.Part.{Part}
 use Rattle.wc_model.specs.Workspace.Closures.{touches_any, last_touch}
-use Rattle.wc_model.specs.Workspace.Edits.{Setting, edit_of, edits_of, edited, all_edited}
-use Rattle.wc_model.specs.Workspace.History.{Opening, State, Chain, IsRight, EachRight, IsLegal, step, stepped, replay, state_after, opened, opening_entries, fact_entries, start}
+use Rattle.wc_model.specs.Workspace.Edits.{Setting, numbered, edit_of, edits_of, edited, all_edited}
+use Rattle.wc_model.specs.Workspace.History.{Chain, IsRight, EachRight, IsLegal, step, stepped, replay, state_after, opened, opening_entries, opening_entry, opening_facts}
+use Rattle.wc_model.specs.Workspace.States.{Opening, State, start}
+use Rattle.wc_model.proofs.StepLemmas.{some_same}
 
 pub replay-append : (o : Opening) (st : Option State) (es fs : List Entry) → replay o st (es ++ fs) ≡ replay o (replay o st es) fs
 replay-append o st [] fs = refl
 replay-append o st (e ∷ es) fs = replay-append o (stepped o st e) es fs
 
+-- What each step keeps, a whole replay keeps.
+
+stopped : (o : Opening) (es : List Entry) → replay o None es ≡ None
+stopped o [] = refl
+stopped o (e ∷ es) = stopped o es
+
+kept_case : (o : Opening) (P : State → Type 0) (es : List Entry) (last : State) (next : Option State)
+    → ((new : State) → next ≡ Some new → P new) → ((new : State) → P new → replay o (Some new) es ≡ Some last → P last)
+    → replay o next es ≡ Some last → P last
+kept_case o P es last None this later goes = absurd (let none = sym (stopped o es) ∙ goes in cc)
+kept_case o P es last (Some new) this later goes = later new (this new refl) goes
+
+pub throughout : (o : Opening) (P : State → Type 0) → ((st new : State) (e : Entry) → step o st e ≡ Some new → P st → P new)
+    → (es : List Entry) (st last : State) → P st → replay o (Some st) es ≡ Some last → P last
+throughout o P keeps [] st last holds goes = subst P (some_same st last goes) holds
+throughout o P keeps (e ∷ es) st last holds goes =
+    kept_case o P es last (step o st e) (λ new goes. keeps st new e goes holds) (λ new. throughout o P keeps es new last) goes
+
 pub edits_of-append : (es fs : List Entry) → edits_of (es ++ fs) ≡ edits_of es ++ edits_of fs
-edits_of-append [] fs = refl
-edits_of-append (e ∷ es) fs = ap (λ l. edit_of e ++ l) (edits_of-append es fs) ∙ sym (append_assoc (edit_of e) (edits_of es) (edits_of fs))
+edits_of-append es fs = flat_map-append edit_of es fs
 
 pub edits_of-snoc : (es : List Entry) (e : Entry) → edits_of (es ++ e ∷ []) ≡ edits_of es ++ edit_of e
 edits_of-snoc es e = edits_of-append es (e ∷ []) ∙ ap (λ l. edits_of es ++ l) (append-nil (edit_of e))
@@ -29,12 +49,12 @@ right_snoc chain image edits [] e each right = (same_right chain image e _ _ (ap
 right_snoc chain image edits (f ∷ fs) e each right =
     (each.0, right_snoc chain image (edits ++ edit_of f) fs e each.1 (same_right chain image e _ _ (sym (append_assoc edits (edit_of f) (edits_of fs))) right))
 
-length-fact_entries : (count : ℕ) (facts : List Fact) → length (fact_entries count facts) ≡ length facts
-length-fact_entries count [] = refl
-length-fact_entries count (f ∷ fs) = ap (λ n. suc n) (length-fact_entries (count + 1) fs)
+pub length-numbered : (number : ℕ) (facts : List Fact) → length (numbered number facts) ≡ length facts
+length-numbered number [] = refl
+length-numbered number (f ∷ fs) = ap (λ n. suc n) (length-numbered (number + 1) fs)
 
 pub length-opening_entries : (o : Opening) → length (opening_entries o) ≡ opened o
-length-opening_entries o = ap (λ n. suc n) (length-fact_entries 2 o.facts) ∙ omega arith
+length-opening_entries o = ap (λ n. suc n) (length-map (opening_facts o.facts) opening_entry ∙ length-numbered 2 o.facts) ∙ omega arith
 
 pub opened_within : (o : Opening) (history : List Entry) → take (opened o) history ≡ opening_entries o → opened o ≤ length history
 opened_within o history begins = omega (arith, length-opening_entries o, ap length begins, length-take (opened o) history)

@@ -5,7 +5,7 @@ use Rattle.wc_model.specs.declared.elf_image.Image.{Image}
 use Rattle.wc_model.specs.declared.inputs.Edit.{Edit}
 use Rattle.wc_model.specs.Workspace.Closures.{stamp_of, closure, last_touch}
 use Rattle.wc_model.specs.Workspace.Edits.{after_edits, all_edited, bare}
-use Rattle.wc_model.specs.Workspace.History.{Opening, State, Run, Ask, ask_at, with_ask, own_run, without_own, inputs_at, stamp_at, open_ask, is_session}
+use Rattle.wc_model.specs.Workspace.States.{Opening, State, Run, Ask, ask_at, with_ask, own_run, without_own, inputs_at, stamp_at, open_ask, is_session}
 
 pub asked_same : (session : ℕ) (new : Option Ask) (asks : List (Option Ask)) → session < length asks → ask_at session (with_ask session new asks) ≡ new
 asked_same session new [] within = absurd (omega arith)

@@ -1,5 +1,5 @@
 -- An edit that touches none of some parts leaves inputs that agree on all of them.
-use Rattle.std.proofs.Common.{◌≡◌, ℕ, Bool, true, false, not, ◌||◌, ◌==◌, List, [], ◌∷◌, ◌++◌, cond, Option, None, Some, refl, sym, ap, ◌∙◌, eq-eqb}
+use Rattle.std.proofs.Common.{◌≡◌, ℕ, Bool, true, false, not, ◌||◌, ◌==◌, List, [], ◌∷◌, ◌++◌, cond, refl, sym, ap, ◌∙◌}
 use Rattle.std.specs.List.{filter}
 use Rattle.std.proofs.lemmas.List.{append-nil}
 use Rattle.std.proofs.lemmas.List.Elements.{filter-append}
@@ -8,27 +8,9 @@ use Rattle.wc_model.specs.declared.inputs.Edit.{Edit}
 use Rattle.wc_model.specs.declared.inputs.Edit.TheVariants.{Add, Drop, Hardware as Timing}
 use Rattle.wc_model.specs.declared.kinds.Part.{Part}
 use Rattle.wc_model.specs.declared.kinds.Part.TheVariants.{Steer, Loops, Limits, Cache as CachePart, Cycles as CyclesPart}
-use Rattle.wc_model.specs.declared.machine.Cache.{Cache}
-use Rattle.wc_model.specs.declared.machine.Cycles.{Cycles}
-use Rattle.wc_model.specs.declared.machine.StartState.{StartState}
-use Rattle.wc_model.specs.declared.machine.StartState.TheVariants.{Empty, Any}
 use Rattle.wc_model.specs.Workspace.Closures.{touches_any}
-use Rattle.wc_model.specs.Workspace.Edits.{Setting, edited, touches, touches_fact, belongs, fact_numbered, without_number, same_cycles, same_start, same_cache, AgreeOn, AgreeOnAll}
-
-itself : (n : ℕ) → (n == n) ≡ true
-itself n = eq-eqb n n refl
-
-pub same_cycles-refl : (c : Cycles) → same_cycles c c ≡ true
-same_cycles-refl c =
-    rw (itself c.alu, itself c.mul, itself c.div, itself c.load, itself c.store, itself c.multi, itself c.branch, itself c.system, itself c.taken, itself c.per_register, itself c.hit, itself c.miss) refl
-
-same_start-refl : (s : StartState) → same_start s s ≡ true
-same_start-refl Empty = refl
-same_start-refl Any = refl
-
-pub same_cache-refl : (c : Option Cache) → same_cache c c ≡ true
-same_cache-refl None = refl
-same_cache-refl (Some c) = rw (itself c.sets, itself c.ways, itself c.line, same_start-refl c.start) refl
+use Rattle.wc_model.specs.Workspace.Edits.{Setting, edited, touches, touches_fact, belongs, fact_numbered, without_number, AgreeOn, AgreeOnAll}
+use Rattle.wc_model.proofs.HardwareLemmas.{cycles_same, caches_same}
 
 added : (part : Part) (facts : List (ℕ × Fact)) (n : ℕ) (fact : Fact) → belongs part fact ≡ false
     → filter (λ (f : ℕ × Fact). belongs part f.1) facts ≡ filter (λ (f : ℕ × Fact). belongs part f.1) (facts ++ (n, fact) ∷ [])
@@ -65,12 +47,12 @@ agree_on n s (Drop number) Limits p = dropped Limits s.facts number p
 agree_on n s (Timing hardware) Steer p = refl
 agree_on n s (Timing hardware) Loops p = refl
 agree_on n s (Timing hardware) Limits p = refl
-agree_on n s (Add fact) CyclesPart p = same_cycles-refl s.hardware.cycles
-agree_on n s (Drop number) CyclesPart p = same_cycles-refl s.hardware.cycles
-agree_on n s (Timing hardware) CyclesPart p = same_of_not _ p
-agree_on n s (Add fact) CachePart p = same_cache-refl s.hardware.cache
-agree_on n s (Drop number) CachePart p = same_cache-refl s.hardware.cache
-agree_on n s (Timing hardware) CachePart p = same_of_not _ p
+agree_on n s (Add fact) CyclesPart p = refl
+agree_on n s (Drop number) CyclesPart p = refl
+agree_on n s (Timing hardware) CyclesPart p = cycles_same s.hardware.cycles hardware.cycles (same_of_not _ p)
+agree_on n s (Add fact) CachePart p = refl
+agree_on n s (Drop number) CachePart p = refl
+agree_on n s (Timing hardware) CachePart p = caches_same s.hardware.cache hardware.cache (same_of_not _ p)
 
 or_left : (a b : Bool) → (a || b) ≡ false → a ≡ false
 or_left false b p = refl

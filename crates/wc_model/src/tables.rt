@@ -1,5 +1,6 @@
-ghost use Rattle.std.specs.Prelude.{◌≡◌};
+ghost use Rattle.std.specs.Prelude.{◌≡◌, ◌<◌, ◌∷◌, [], ◌++◌, MatchResult, length, remove, slice_index_or};
 
+use std::alloc::AllocError;
 use std::marker::Model;
 
 /// A list inside a public type: contracts see its items alone.
@@ -30,6 +31,25 @@ impl<T> Table<T> {
         ensures { result.now ≡ self.now }
     {
         self.items.as_slice()
+    }
+
+    /// Adds an item at the end. Without memory the list stays as it was.
+    pub fn push(&mut self, item: T) -> Result<(), AllocError>
+    where
+        T: Drop,
+        ensures { MatchResult result (λ _. self.new ≡ self.old ++ item ∷ []) (λ _. self.new ≡ self.old) }
+    {
+        self.items.push(item)?;
+        Ok(())
+    }
+
+    /// Takes out the item at a place. Those behind it move up.
+    pub fn remove(&mut self, place: usize) -> T
+        requires { place < length self.old }
+        ensures item { result ≡ slice_index_or self.old place result }
+        ensures rest { self.new ≡ remove self.old place }
+    {
+        self.items.remove(place)
     }
 }
 

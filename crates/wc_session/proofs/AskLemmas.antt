@@ -4,7 +4,8 @@ use Rattle.wc_model.specs.declared.entries.Entry.{Entry}
 use Rattle.wc_model.specs.declared.entries.Entry.TheVariants.{Pin, Start, Finish}
 use Rattle.wc_model.specs.Workspace.Closures.{has_kind}
 use Rattle.wc_model.specs.Workspace.Edits.{Setting}
-use Rattle.wc_model.specs.Workspace.History.{Opening, State, Chain, IsLegal, bound_kind}
+use Rattle.wc_model.specs.Workspace.History.{Chain, IsLegal, bound_kind}
+use Rattle.wc_model.specs.Workspace.States.{Opening, State}
 use Rattle.wc_core.specs.Answers.{IsStarted, IsGiven}
 use Rattle.wc_core.specs.Features.{Each}
 use Rattle.wc_core.specs.Fits.{FitsTicket, is_settled}

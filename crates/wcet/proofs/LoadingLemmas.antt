@@ -12,7 +12,7 @@ use Rattle.wc_io.proofs.RowLemmas.{failed_row_counts, failed_count_append, AddsA
 use Rattle.wc_model.specs.declared.elf_image.Image.{Image}
 use Rattle.wc_model.specs.declared.flow_facts.Fact.{Fact}
 use Rattle.wc_model.specs.declared.machine.Hardware.{Hardware}
-use Rattle.wc_model.specs.Workspace.Edits.{default_hardware}
+use Rattle.wc_model.specs.Workspace.Hardware.{default_hardware}
 use Rattle.wcet.specs.declared.loading.Unloaded.{Unloaded}
 use Rattle.wcet.specs.declared.loading.Unloaded.TheVariants.{ReadFault, Refused, Memory}
 use Rattle.wcet.specs.Files.{MayBe, Holds, Within, ImageSays, TimingSays, FactsSay, FileSays, OptionalSays, BinarySays, HardwareSays, FactsFileSays, optional_path, paths_of, of_binary, of_hardware, of_facts}

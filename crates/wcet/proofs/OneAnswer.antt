@@ -11,7 +11,7 @@ use Rattle.wc_hw.proofs.OneReading.{no_fault, no_cache}
 use Rattle.wc_model.specs.declared.elf_image.Image.{Image}
 use Rattle.wc_model.specs.declared.elf_image.Name.{Name}
 use Rattle.wc_model.specs.declared.flow_facts.Fact.{Fact}
-use Rattle.wc_model.specs.Workspace.Edits.{default_hardware}
+use Rattle.wc_model.specs.Workspace.Hardware.{default_hardware}
 use Rattle.wc_model.specs.Program.Image.{names_of as names_in}
 use Rattle.wc_model.specs.Program.Words.{address_of, is_called}
 use Rattle.wcet.specs.declared.loading.Loaded.{Loaded}

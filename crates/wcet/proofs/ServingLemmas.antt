@@ -20,7 +20,8 @@ use Rattle.wcet.specs.Acyclic.Chain.{chain, bounded}
 use Rattle.wcet.specs.Acyclic.Paths.{IsPath}
 use Rattle.wc_model.specs.Program.Positions.{start_of}
 use Rattle.wc_model.specs.Workspace.Edits.{Setting, edit_of, after_edits}
-use Rattle.wc_model.specs.Workspace.History.{Opening, EachRight, IsRight}
+use Rattle.wc_model.specs.Workspace.History.{EachRight, IsRight}
+use Rattle.wc_model.specs.Workspace.States.{Opening}
 use Rattle.wc_session.specs.Served.{Gains}
 use Rattle.wc_core.specs.Answers.{AreRuns}
 use Rattle.wcet.specs.declared.loading.Loaded.{Loaded}

@@ -9,11 +9,12 @@ use Rattle.wc_model.specs.declared.flow_facts.Fact.{Fact}
 use Rattle.wc_model.specs.declared.machine.Hardware.{Hardware}
 use Rattle.wc_model.specs.declared.values.Outcome.{Outcome}
 use Rattle.wc_model.specs.Workspace.Closures.{has_kind, order_of}
-use Rattle.wc_model.specs.Workspace.History.{Opening, State, Run, Ask, bound_kind, start, step, replay, opened, opening_entries, fact_entries, home_of, with_home, own_run, without_own, open_ask, allow, is_free, can_start, after_start, start_step, can_finish, after_finish, finish_step, can_answer, answer_step, same_name, stamp_at, count_of, inputs_at, within_reach, all_within_reach, before, is_out, right_end, taken, with_ask, can_edit, is_live, after_edit, after_pin}
+use Rattle.wc_model.specs.Workspace.History.{bound_kind, step, replay, opened, opening_entries, fact_entries, allow, can_start, after_start, start_step, can_finish, after_finish, finish_step, can_answer, answer_step, all_within_reach, before, right_end, taken, can_edit, is_live, after_edit, after_pin}
+use Rattle.wc_model.specs.Workspace.States.{Opening, State, Run, Ask, start, home_of, with_home, own_run, without_own, open_ask, is_free, same_name, stamp_at, count_of, inputs_at, within_reach, is_out, with_ask}
 use Rattle.wc_core.specs.Answers.{RunsNothing, AreRuns}
 use Rattle.wc_core.specs.Features.{Each}
 use Rattle.wc_core.specs.Holds.{bound_alone, plain_opening}
-use Rattle.wc_core.proofs.OpenAsks.{some_same, if_some}
+use Rattle.wc_model.proofs.StepLemmas.{some_same, if_some}
 use Rattle.wcet.specs.ReportText.{IsOfKinds}
 use Rattle.wcet.specs.Starts.{starts_of, all_starts, bound_runs}
 

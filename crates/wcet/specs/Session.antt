@@ -9,7 +9,8 @@ use Rattle.wc_model.specs.declared.entries.Ended.TheVariants.{ReadFault, WriteFa
 use Rattle.wc_model.specs.declared.entries.Entry.{Entry}
 use Rattle.wc_model.specs.declared.values.Outcome.TheVariants.{Bound, Fault, Memory}
 use Rattle.wcet.specs.Acyclic.Chain.{chain}
-use Rattle.wc_model.specs.Workspace.History.{Opening, Chain, EachRight, IsLegal, opening_entries}
+use Rattle.wc_model.specs.Workspace.History.{Chain, EachRight, IsLegal, opening_entries}
+use Rattle.wc_model.specs.Workspace.States.{Opening}
 use Rattle.wcet.specs.Acyclic.Paths.{IsPath, path_cycles}
 use Rattle.wc_model.specs.Program.Positions.{start_of}
 use Rattle.wc_model.specs.Program.Steps.{Step}

@@ -2,7 +2,7 @@
 ghost use Rattle.std.specs.Prelude.{◌≡◌, ℕ, List, option_map};
 ghost use Rattle.std.specs.List.{list_all};
 ghost use Rattle.wc_base.specs.declared.faults.FileWord.TheVariants.{Binary};
-ghost use Rattle.wc_model.specs.Workspace.Edits.{default_hardware as default_hardware_of};
+ghost use Rattle.wc_model.specs.Workspace.Hardware.{default_hardware as default_hardware_of};
 ghost use Rattle.wcet.specs.Files.{FactsFileSays, FactsSay, HardwareSays, Holds, ImageSays, TimingSays, Within, is_checksum};
 ghost use Rattle.wcet.specs.Loading.{AreBytes, Decodes, LoadsFile, LoadsOptional, Loads, listed};
 ghost use Rattle.wcet.specs.Words.{paths_in};

@@ -29,7 +29,11 @@ fn edited_between<W: Work>(
 
 fn one_visit(alloc: Global) -> Result<Fact, AllocError> {
     let mut left = Vec::new(alloc);
-    left.push(Term::Visits { times: 1, at: 0 })?;
+    left.push(Term::Visits {
+        times: 1,
+        at: 0,
+        within: Table::new(Vec::new(alloc)),
+    })?;
     let mut right = Vec::new(alloc);
     right.push(Term::Constant(1))?;
     Ok(Fact::Limit {
@@ -64,6 +68,7 @@ fn an_edit_between_drops_what_it_touches(rt: HostRuntime) -> Result<(), Fail> {
     let loops = Edit::Add(Fact::Loop {
         at: 0,
         bound: Some(9),
+        within: Table::new(Vec::new(alloc)),
     });
     assert_eq!(rt;
         edited_between(&mut core, alloc, loops)?,

@@ -1,21 +1,20 @@
 -- The inputs of a bound, what an edit of them touches, and the inputs after some edits.
-use Rattle.std.specs.Prelude.{ℕ, if◌then◌else◌, ◌+◌, Bool, true, false, not, ◌&&◌, ◌==◌, List, [], ◌∷◌, ◌++◌, take, filter, Option, None, Some, ◌≡◌, refl, IsTrue}
-use Rattle.std.proofs.Common.{lit≤}
+use Rattle.std.specs.Prelude.{ℕ, ◌+◌, Bool, true, false, not, ◌==◌, List, [], ◌∷◌, ◌++◌, take, filter, find, Option, None, Some, ◌≡◌}
+use Rattle.std.specs.List.{flat_map}
+use Rattle.std.specs.Option.{option_map}
 use Rattle.wc_model.specs.declared.elf_image.Image.{Image}
 use Rattle.wc_model.specs.declared.entries.Entry.{Entry}
 use Rattle.wc_model.specs.declared.entries.Entry.TheVariants.{Edit as EditEntry}
 use Rattle.wc_model.specs.declared.flow_facts.Fact.{Fact}
-use Rattle.wc_model.specs.declared.flow_facts.Fact.TheVariants.{Loop, Multibranch, Multicall, Noreturn, Limit}
-use Rattle.wc_model.specs.declared.machine.Cycles.{Cycles}
-use Rattle.wc_model.specs.declared.machine.Cache.{Cache}
-use Rattle.wc_model.specs.declared.machine.StartState.{StartState}
-use Rattle.wc_model.specs.declared.machine.StartState.TheVariants.{Empty, Any}
+use Rattle.wc_model.specs.declared.flow_facts.Fact.TheVariants.{Loop, Multibranch, Multicall, Noreturn, Checksum, Limit}
 use Rattle.wc_model.specs.declared.machine.Hardware.{Hardware}
 use Rattle.wc_model.specs.declared.inputs.Inputs.{Inputs}
 use Rattle.wc_model.specs.declared.inputs.Edit.{Edit}
 use Rattle.wc_model.specs.declared.inputs.Edit.TheVariants.{Add, Drop, Hardware as Timing}
 use Rattle.wc_model.specs.declared.kinds.Part.{Part}
 use Rattle.wc_model.specs.declared.kinds.Part.TheVariants.{Steer, Loops, Limits, Cache as CachePart, Cycles as CyclesPart}
+use Rattle.wc_model.specs.Workspace.Firsts.{without_first}
+use Rattle.wc_model.specs.Workspace.Hardware.{default_hardware, same_cycles, same_cache}
 
 -- The inputs by value. A live fact stands beside its number, which is the count of the edit that added it.
 pub record Setting : Type 0 where
@@ -26,28 +25,21 @@ pub record Setting : Type 0 where
 abbrev pub setting_of : Inputs → Setting
 setting_of inputs = record { image = inputs.image.value; facts = inputs.facts; hardware = inputs.hardware }
 
--- Every class takes one cycle, nothing else takes any, and there is no cache.
-abbrev pub default_hardware : Hardware
-default_hardware =
-    record {
-      cycles = record { alu = 1; mul = 1; div = 1; load = 1; store = 1; multi = 1; branch = 1; system = 1; taken = 0; per_register = 0; hit = 0; miss = 0; hit_is_least = lit≤ tt };
-      cache = None;
-      uncached = refl;
-    }
-
 -- Before the first edit there are no facts, and the hardware is the default one.
 abbrev pub bare : Image → Setting
 bare image = record { image = image; facts = []; hardware = default_hardware }
 
--- The live fact with a number.
-abbrev pub fact_numbered : ℕ → List (ℕ × Fact) → Option Fact
-fact_numbered number [] = None
-fact_numbered number (f ∷ fs) = if f.0 == number then Some f.1 else fact_numbered number fs
+-- Facts with their numbers, from a first number on.
+abbrev pub numbered : ℕ → List Fact → List (ℕ × Fact)
+numbered number [] = []
+numbered number (f ∷ fs) = (number, f) ∷ numbered (number + 1) fs
 
--- Numbers are counts of edits, so no two live facts have the same one.
+-- The live fact with a number, and the live facts without it. No two of them have the same number.
+abbrev pub fact_numbered : ℕ → List (ℕ × Fact) → Option Fact
+fact_numbered number facts = option_map (λ f. f.1) (find (λ f. f.0 == number) facts)
+
 abbrev pub without_number : ℕ → List (ℕ × Fact) → List (ℕ × Fact)
-without_number number [] = []
-without_number number (f ∷ fs) = if f.0 == number then fs else f ∷ without_number number fs
+without_number number facts = without_first (λ f. f.0 == number) facts
 
 -- The inputs after the edit that is counted `count`.
 abbrev pub edited : ℕ → Setting → Edit → Setting
@@ -66,8 +58,7 @@ edit_of (EditEntry session count edit) = edit ∷ []
 edit_of _ = []
 
 abbrev pub edits_of : List Entry → List Edit
-edits_of [] = []
-edits_of (e ∷ es) = edit_of e ++ edits_of es
+edits_of history = flat_map edit_of history
 
 -- The inputs after the first `n` accepted edits.
 abbrev pub after_edits : Image → ℕ → List Edit → Setting
@@ -77,6 +68,10 @@ abbrev pub after : Image → ℕ → List Entry → Setting
 after image n history = after_edits image n (edits_of history)
 
 -- The part that a fact belongs to: control flow, loop bounds or stated limits. A checksum belongs to none.
+abbrev pub is_checksum : Fact → Bool
+is_checksum (Checksum name value) = true
+is_checksum _ = false
+
 abbrev pub belongs : Part → Fact → Bool
 belongs Steer (Multibranch at to) = true
 belongs Steer (Multicall at to) = true
@@ -84,19 +79,6 @@ belongs Steer (Noreturn at) = true
 belongs Loops (Loop at bound within) = true
 belongs Limits (Limit left right) = true
 belongs _ _ = false
-
-abbrev pub same_cycles : Cycles → Cycles → Bool
-same_cycles a b = a.alu == b.alu && a.mul == b.mul && a.div == b.div && a.load == b.load && a.store == b.store && a.multi == b.multi && a.branch == b.branch && a.system == b.system && a.taken == b.taken && a.per_register == b.per_register && a.hit == b.hit && a.miss == b.miss
-
-abbrev pub same_start : StartState → StartState → Bool
-same_start Empty Empty = true
-same_start Any Any = true
-same_start _ _ = false
-
-abbrev pub same_cache : Option Cache → Option Cache → Bool
-same_cache None None = true
-same_cache (Some a) (Some b) = a.sets == b.sets && a.ways == b.ways && a.line == b.line && same_start a.start b.start
-same_cache _ _ = false
 
 abbrev pub touches_fact : Part → Option Fact → Bool
 touches_fact part None = false
@@ -112,8 +94,8 @@ touches _ s (Timing hardware) = false
 
 -- Two inputs agree on a part.
 abbrev pub AgreeOn : Setting → Setting → Part → Type 0
-AgreeOn a b CyclesPart = IsTrue (same_cycles a.hardware.cycles b.hardware.cycles)
-AgreeOn a b CachePart = IsTrue (same_cache a.hardware.cache b.hardware.cache)
+AgreeOn a b CyclesPart = a.hardware.cycles ≡ b.hardware.cycles
+AgreeOn a b CachePart = a.hardware.cache ≡ b.hardware.cache
 AgreeOn a b part = filter (λ f. belongs part f.1) a.facts ≡ filter (λ f. belongs part f.1) b.facts
 
 -- Two inputs have the same binary and agree on all of some parts.

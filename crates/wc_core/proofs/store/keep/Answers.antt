@@ -1,5 +1,5 @@
 use Rattle.std.proofs.Common.{◌≡◌, ◌++◌, List, [], ◌∷◌, None, Some, if◌then◌else◌, set, get_or, sym, ap, ◌∙◌, arith}
-use Rattle.wc_model.specs.Workspace.History.{with_room}
+use Rattle.wc_model.specs.Workspace.States.{with_room}
 use Rattle.wc_core.specs.declared.store.Slot.{Slot}
 use Rattle.wc_core.specs.Holds.{slot_place, filled}
 use Rattle.wc_core.proofs.Rows.{filled_at, none_at}

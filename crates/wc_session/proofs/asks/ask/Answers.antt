@@ -1,6 +1,6 @@
 use Rattle.std.proofs.Common.{ap, ◌∙◌}
 use Rattle.wc_core.specs.Fits.{is_settled}
-use Rattle.wc_model.specs.Workspace.History.{Opening}
+use Rattle.wc_model.specs.Workspace.States.{Opening}
 use Rattle.wc_session.proofs.AskLemmas.{falls, gave, not_settled}
 use Rattle.wc_session.proofs.asks.ask.Goals as goal
 

@@ -1,7 +1,7 @@
 use Rattle.std.proofs.Common.{ap}
 use Rattle.std.specs.Prelude.{Err, option_map}
 use Rattle.wc_base.specs.declared.faults.FileWord.TheVariants.{Hardware as HardwareFile}
-use Rattle.wc_model.specs.Workspace.Edits.{default_hardware}
+use Rattle.wc_model.specs.Workspace.Hardware.{default_hardware}
 use Rattle.wcet.specs.Files.{Holds, TimingSays, Within}
 use Rattle.wcet.proofs.LoadingLemmas.{decoded, given_path, unread_bytes}
 use Rattle.wcet.proofs.loading.load_hardware.Goals as goal

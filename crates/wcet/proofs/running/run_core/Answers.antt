@@ -1,7 +1,7 @@
 use Rattle.std.proofs.Common.{ap, subst, sym, ◌∙◌}
 use Rattle.wc_core.specs.Answers.{RunsNothing}
 use Rattle.wc_core.proofs.Openings.{alone_free}
-use Rattle.wc_model.specs.Workspace.History.{Opening}
+use Rattle.wc_model.specs.Workspace.States.{Opening}
 use Rattle.wcet.proofs.ServingLemmas.{left_runs}
 use Rattle.wcet.proofs.running.run_core.Goals as goal
 

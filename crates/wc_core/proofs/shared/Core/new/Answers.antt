@@ -4,9 +4,9 @@ use Rattle.wc_model.specs.declared.entries.Entry.TheVariants.{Edit as EditEntry}
 use Rattle.wc_model.specs.declared.flow_facts.Fact.{Fact}
 use Rattle.wc_model.specs.declared.inputs.Edit.TheVariants.{Hardware as Timing}
 use Rattle.wc_model.specs.Workspace.Edits.{Setting, setting_of}
-use Rattle.wc_model.specs.Workspace.History.{fact_entries}
+use Rattle.wc_model.specs.Workspace.History.{opening_entry, opening_facts}
 use Rattle.wc_model.proofs.Replays.{length-opening_entries}
-use Rattle.wc_core.specs.Holds.{Basis, opening_of, numbered_from, stamp_from}
+use Rattle.wc_core.specs.Holds.{Basis, opening_of, stamp_from}
 use Rattle.wc_core.proofs.Openings.{opens_all, all_ready, one_work}
 use Rattle.wc_core.proofs.shared.Core.new.Goals as goal
 
@@ -14,11 +14,12 @@ pub invariant_of-result : goal.invariant_of-result
 invariant_of-result g c =
     let image : Image = c.args.image.value in
     let facts : List Fact = c.args.facts.items in
-    let entries = c.in_ok-history.ensures ∙ ap (λ l. EditEntry 0 1 (Timing c.args.hardware) ∷ fact_entries 2 l) c.as_slice.ensures.value in
+    let live = c.in_ok-live.ensures ∙ ap opening_facts c.as_slice.ensures.value in
+    let entries = c.in_ok-history.ensures ∙ ap (λ l. EditEntry 0 1 (Timing c.args.hardware) ∷ map opening_entry l) live in
     let S : List (ℕ × Fact) → Setting = λ fs. record { image = image; facts = fs; hardware = c.args.hardware } in
-    let inputs : setting_of c.in_ok-inputs.inputs.value ≡ S (numbered_from 2 facts) = ap setting_of c.in_ok-inputs.ensures.ok ∙ ap S (c.in_ok-live.ensures ∙ ap (numbered_from 2) c.as_slice-2.ensures.value) in
+    let inputs : setting_of c.in_ok-inputs.inputs.value ≡ S (opening_facts facts) = ap setting_of c.in_ok-inputs.ensures.ok ∙ ap S live in
     let count : c.len.result + 1 ≡ length facts + 1 = omega (arith, c.len.ensures, c.args.facts.ok) in
-    let stamp = c.opening_stamp-stamp.ensures ∙ ap (λ l. stamp_from c.first_stamp.result 1 l) c.as_slice-3.ensures.value in
+    let stamp = c.opening_stamp-stamp.ensures ∙ ap (λ l. stamp_from c.first_stamp.result l) live in
     let b : Basis = record { image = image; hardware = c.args.hardware; facts = facts; sessions = c.args.sessions } in
     let long : length c.in_ok-history.history.items ≡ length facts + 1 = ap length entries ∙ length-opening_entries (opening_of b) in
     let within : length facts + 1 ≤ vec_capacity c.in_ok-history.history = omega (arith, long, c.in_ok-history.history.ok) in
@@ -30,11 +31,12 @@ pub returns-clause-legal : goal.returns-clause-legal
 returns-clause-legal g c =
     let image : Image = c.args.image.value in
     let facts : List Fact = c.args.facts.items in
-    let entries = c.in_ok-history.ensures ∙ ap (λ l. EditEntry 0 1 (Timing c.args.hardware) ∷ fact_entries 2 l) c.as_slice.ensures.value in
+    let live = c.in_ok-live.ensures ∙ ap opening_facts c.as_slice.ensures.value in
+    let entries = c.in_ok-history.ensures ∙ ap (λ l. EditEntry 0 1 (Timing c.args.hardware) ∷ map opening_entry l) live in
     let S : List (ℕ × Fact) → Setting = λ fs. record { image = image; facts = fs; hardware = c.args.hardware } in
-    let inputs : setting_of c.in_ok-inputs.inputs.value ≡ S (numbered_from 2 facts) = ap setting_of c.in_ok-inputs.ensures.ok ∙ ap S (c.in_ok-live.ensures ∙ ap (numbered_from 2) c.as_slice-2.ensures.value) in
+    let inputs : setting_of c.in_ok-inputs.inputs.value ≡ S (opening_facts facts) = ap setting_of c.in_ok-inputs.ensures.ok ∙ ap S live in
     let count : c.len.result + 1 ≡ length facts + 1 = omega (arith, c.len.ensures, c.args.facts.ok) in
-    let stamp = c.opening_stamp-stamp.ensures ∙ ap (λ l. stamp_from c.first_stamp.result 1 l) c.as_slice-3.ensures.value in
+    let stamp = c.opening_stamp-stamp.ensures ∙ ap (λ l. stamp_from c.first_stamp.result l) live in
     let b : Basis = record { image = image; hardware = c.args.hardware; facts = facts; sessions = c.args.sessions } in
     let long : length c.in_ok-history.history.items ≡ length facts + 1 = ap length entries ∙ length-opening_entries (opening_of b) in
     let within : length facts + 1 ≤ vec_capacity c.in_ok-history.history = omega (arith, long, c.in_ok-history.history.ok) in
@@ -45,11 +47,12 @@ pub returns-clause-free : goal.returns-clause-free
 returns-clause-free g c =
     let image : Image = c.args.image.value in
     let facts : List Fact = c.args.facts.items in
-    let entries = c.in_ok-history.ensures ∙ ap (λ l. EditEntry 0 1 (Timing c.args.hardware) ∷ fact_entries 2 l) c.as_slice.ensures.value in
+    let live = c.in_ok-live.ensures ∙ ap opening_facts c.as_slice.ensures.value in
+    let entries = c.in_ok-history.ensures ∙ ap (λ l. EditEntry 0 1 (Timing c.args.hardware) ∷ map opening_entry l) live in
     let S : List (ℕ × Fact) → Setting = λ fs. record { image = image; facts = fs; hardware = c.args.hardware } in
-    let inputs : setting_of c.in_ok-inputs.inputs.value ≡ S (numbered_from 2 facts) = ap setting_of c.in_ok-inputs.ensures.ok ∙ ap S (c.in_ok-live.ensures ∙ ap (numbered_from 2) c.as_slice-2.ensures.value) in
+    let inputs : setting_of c.in_ok-inputs.inputs.value ≡ S (opening_facts facts) = ap setting_of c.in_ok-inputs.ensures.ok ∙ ap S live in
     let count : c.len.result + 1 ≡ length facts + 1 = omega (arith, c.len.ensures, c.args.facts.ok) in
-    let stamp = c.opening_stamp-stamp.ensures ∙ ap (λ l. stamp_from c.first_stamp.result 1 l) c.as_slice-3.ensures.value in
+    let stamp = c.opening_stamp-stamp.ensures ∙ ap (λ l. stamp_from c.first_stamp.result l) live in
     let b : Basis = record { image = image; hardware = c.args.hardware; facts = facts; sessions = c.args.sessions } in
     let long : length c.in_ok-history.history.items ≡ length facts + 1 = ap length entries ∙ length-opening_entries (opening_of b) in
     let within : length facts + 1 ≤ vec_capacity c.in_ok-history.history = omega (arith, long, c.in_ok-history.history.ok) in
