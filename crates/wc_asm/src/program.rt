@@ -1,5 +1,4 @@
-ghost use Rattle.std.specs.Prelude.{◌≡◌, ◌==◌};
-ghost use Rattle.std.specs.List.{list_any};
+ghost use Rattle.std.specs.Prelude.{◌≡◌};
 ghost use Rattle.wc_asm.specs.Files.{are_names as are_names_of, is_code as is_code_of, is_name as is_name_of, is_writable_of};
 
 use crate::layout::layout_of;
@@ -21,32 +20,16 @@ fn is_code(program: &Program) -> bool
     program.start % 4 == 0 && words <= 1 << 30 && program.start as u64 + 4 * words <= 1 << 32
 }
 
-fn has_nul(name: &[u8]) -> bool
-    ensures { result ≡ list_any (λ byte. byte == 0) name.now }
-{
-    for byte in name {
-        if *byte == 0 {
-            return true;
-        }
-    }
-    false
-}
-
 fn is_name(name: &[u8]) -> bool
     ensures { result ≡ is_name_of name.now }
 {
-    name.len() != 0 && !has_nul(name)
+    name.len() != 0 && !name.contains(&0)
 }
 
 fn are_names(names: &[(Text, Addr)]) -> bool
     ensures { result ≡ are_names_of names.now }
 {
-    for name in names {
-        if !is_name(name.0.items()) {
-            return false;
-        }
-    }
-    true
+    names.iter().all(|name| is_name(name.0.items()))
 }
 
 /// Whether an ELF file can hold the program: it starts at a multiple of 4, its code ends at 2^32 or before,

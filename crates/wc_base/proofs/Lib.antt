@@ -1,1 +1,5 @@
+pub mod DigitLemmas
+pub mod EachLemmas
 pub mod Products
+pub mod SumLemmas
+pub mod TestLemmas

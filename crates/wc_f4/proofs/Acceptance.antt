@@ -1,5 +1,5 @@
 -- Every text of the grammar is read, as what it states.
-use Rattle.std.proofs.Common.{◌≡◌, ℕ, ◌-◌, List, [], ◌∷◌, ◌++◌, length, Option, None, Some, Ok, Err, refl, sym, ap, ◌∙◌, subst, arith, append_assoc, append-nil, ◌⊎◌, inl, inr, ⊎_elim}
+use Rattle.std.proofs.Common.{◌≡◌, ℕ, ◌-◌, Bool, true, false, cond, List, [], ◌∷◌, ◌++◌, length, Option, None, Some, Ok, Err, refl, sym, ap, ◌∙◌, subst, arith, append_assoc, append-nil, ◌⊎◌, inl, inr, ⊎_elim}
 use Rattle.wc_model.specs.declared.flow_facts.Fact.{Fact}
 use Rattle.wc_model.specs.declared.flow_facts.Fact.TheVariants.{Loop, Multibranch, Multicall, Noreturn, Checksum, Limit}
 use Rattle.wc_model.specs.declared.flow_facts.Term.{Term}
@@ -8,12 +8,14 @@ use Rattle.wc_f4.specs.declared.stops.Stop.TheVariants.{Bad}
 use Rattle.wc_f4.specs.declared.tokens.Mark.TheVariants as sign
 use Rattle.wc_f4.specs.declared.tokens.Word.{Word}
 use Rattle.wc_f4.specs.declared.tokens.Word.TheVariants as keyword
-use Rattle.wc_f4.specs.Grammar.{Names, IsAddress, plain, named, above, below, AreTargets, IsBound, IsFact, IsSum, IsTerm, IsText, Wanted, any, one, IsWhole}
+use Rattle.wc_f4.specs.Grammar.{Names, IsAddress, plain, named, above, below, AreAddresses, IsBound, IsBranching, IsFact, IsSum, IsTerm, IsText, IsWithin, Wanted, any, one, IsWhole}
 use Rattle.wc_f4.specs.Places as place
-use Rattle.wc_f4.specs.Places.{Answer, Branching, Part, Place, Side, Turn, after_address, answer, branching_fact, follow, turn, with_term, with_terms}
+use Rattle.wc_f4.specs.Places.{Answer, Owner, Part, Place, Side, Turn, after_address, answer, branching_fact, follow, is_this, on_this, turn, with_term, with_terms}
+use Rattle.wc_f4.specs.declared.branchings.Branching.{Branching}
+use Rattle.wc_f4.specs.declared.branchings.Branching.TheVariants.{Jump, Call}
 use Rattle.wc_f4.specs.Tokens.{Token, Placed, tokens_of, word, number, quoted, mark, wrong, text_end}
-use Rattle.wc_f4.proofs.ParsingLemmas.{back, behind_turn, by_turn, within}
-use Rattle.wc_f4.proofs.GrammarLemmas.{one_term, term_first}
+use Rattle.wc_f4.proofs.ParsingLemmas.{back, by_turn, within}
+use Rattle.wc_f4.proofs.GrammarLemmas.{one_term, term_first, this_is}
 
 -- where reading begins, and where a fact has ended
 abbrev pub first_of : Wanted → Place
@@ -24,55 +26,53 @@ abbrev pub later_of : Wanted → Place
 later_of any = place.start
 later_of one = place.finish
 
-plus_refused : (names : Names) (part : Part) (at : ℕ) → turn names (after_address part at) (mark sign.Plus) ≡ place.refused
-plus_refused names place.looped at = refl
-plus_refused names (place.branching kind) at = refl
-plus_refused names (place.target kind from before) at = refl
-plus_refused names place.noreturn at = refl
-plus_refused names (place.visited side n) at = refl
+-- behind a list only its owner's end may stand
+pub whole_refuses : (owner : Owner) (addresses : List ℕ) (t : Token) → is_this (mark sign.Semicolon) t ≡ false → is_this (mark sign.Close) t ≡ false → place.at_whole owner addresses t ≡ place.refused
+whole_refuses (place.targets kind at) to t no_end no_close = ap (λ (b : Bool). cond b (place.states (branching_fact kind at to)) place.refused) no_end
+whole_refuses (place.bounded at b) within t no_end no_close = ap (λ (c : Bool). cond c (place.states (Loop at b within)) place.refused) no_end
+whole_refuses (place.counted side n at) within t no_end no_close =
+    ap (λ (b : Bool). cond b (place.go (place.after_term (with_term side (Visits n at within)))) place.refused) no_close
 
-minus_refused : (names : Names) (part : Part) (at : ℕ) → turn names (after_address part at) (mark sign.Minus) ≡ place.refused
-minus_refused names place.looped at = refl
-minus_refused names (place.branching kind) at = refl
-minus_refused names (place.target kind from before) at = refl
-minus_refused names place.noreturn at = refl
-minus_refused names (place.visited side n) at = refl
+plus_refused : (next : place.Behind) → place.at_behind next (mark sign.Plus) ≡ place.refused
+plus_refused (place.bound at) = refl
+plus_refused (place.to kind at) = refl
+plus_refused (place.within owner) = whole_refuses owner [] (mark sign.Plus) refl refl
+plus_refused (place.after_listed owner before) = whole_refuses owner before (mark sign.Plus) refl refl
+plus_refused (place.closing fact) = refl
 
-star_refused : (names : Names) (side : Side) → turn names (place.after_term side) (mark sign.Star) ≡ place.refused
-star_refused names (place.left terms) = refl
-star_refused names (place.right first terms) = refl
+minus_refused : (next : place.Behind) → place.at_behind next (mark sign.Minus) ≡ place.refused
+minus_refused (place.bound at) = refl
+minus_refused (place.to kind at) = refl
+minus_refused (place.within owner) = whole_refuses owner [] (mark sign.Minus) refl refl
+minus_refused (place.after_listed owner before) = whole_refuses owner before (mark sign.Minus) refl refl
+minus_refused (place.closing fact) = refl
 
-like_moved : (names : Names) (part : Part) (at : ℕ) (t : Token) → (turn names (place.moved part at) t ≡ turn names (after_address part at) t) ⊎ (turn names (after_address part at) t ≡ place.refused)
-like_moved names part at (mark sign.Semicolon) = inl (behind_turn names part at (mark sign.Semicolon))
-like_moved names part at (mark sign.Comma) = inl (behind_turn names part at (mark sign.Comma))
-like_moved names part at (mark sign.Question) = inl (behind_turn names part at (mark sign.Question))
-like_moved names part at (mark sign.Plus) = inr (plus_refused names part at)
-like_moved names part at (mark sign.Minus) = inr (minus_refused names part at)
-like_moved names part at (mark sign.Star) = inl (behind_turn names part at (mark sign.Star))
-like_moved names part at (mark sign.Open) = inl (behind_turn names part at (mark sign.Open))
-like_moved names part at (mark sign.Close) = inl (behind_turn names part at (mark sign.Close))
-like_moved names part at (mark sign.AtMost) = inl (behind_turn names part at (mark sign.AtMost))
-like_moved names part at (word w) = inl (behind_turn names part at (word w))
-like_moved names part at (number n) = inl (behind_turn names part at (number n))
-like_moved names part at (quoted s) = inl (behind_turn names part at (quoted s))
-like_moved names part at wrong = inl (behind_turn names part at wrong)
-like_moved names part at text_end = inl (behind_turn names part at text_end)
+star_refused : (side : Side) → place.at_after_term side (mark sign.Star) ≡ place.refused
+star_refused (place.left terms) = refl
+star_refused (place.right first terms) = refl
 
-like_times : (names : Names) (side : Side) (n : ℕ) (t : Token) → (turn names (place.times side n) t ≡ turn names (place.after_term (with_term side (Constant n))) t) ⊎ (turn names (place.after_term (with_term side (Constant n))) t ≡ place.refused)
-like_times names side n (mark sign.Semicolon) = inl refl
-like_times names side n (mark sign.Comma) = inl refl
-like_times names side n (mark sign.Question) = inl refl
-like_times names side n (mark sign.Plus) = inl refl
-like_times names side n (mark sign.Minus) = inl refl
-like_times names side n (mark sign.Star) = inr (star_refused names (with_term side (Constant n)))
-like_times names side n (mark sign.Open) = inl refl
-like_times names side n (mark sign.Close) = inl refl
-like_times names side n (mark sign.AtMost) = inl refl
-like_times names side n (word w) = inl refl
-like_times names side n (number k) = inl refl
-like_times names side n (quoted s) = inl refl
-like_times names side n wrong = inl refl
-like_times names side n text_end = inl refl
+-- a place that takes one more token than another: what the other one doesn't refuse has the same turn at both
+abbrev Like : Turn → Turn → Type 0
+Like more less = (more ≡ less) ⊎ (less ≡ place.refused)
+
+like_this : (u t : Token) (does : Turn) (less : Token → Turn) → less u ≡ place.refused → Like (on_this u t does (less t)) (less t)
+like_this u t does less never = by_case (is_this u t) refl
+  where
+    by_case : (same : Bool) → is_this u t ≡ same → Like (cond same does (less t)) (less t)
+    by_case true is = inr (ap less (sym (this_is u t is)) ∙ never)
+    by_case false is = inl refl
+
+like_both : (a b c : Turn) → Like a b → Like b c → Like a c
+like_both a b c (inl same) (inl again) = inl (same ∙ again)
+like_both a b c (inr none) (inl again) = inr (sym again ∙ none)
+like_both a b c first (inr none) = inr none
+
+like_moved : (part : Part) (at : ℕ) (t : Token) → Like (place.at_moved part at t) (place.at_behind (after_address part at) t)
+like_moved part at t =
+    let next = after_address part at in
+    like_both _ _ _
+    (like_this (mark sign.Plus) t (place.go (place.above part at)) (λ u. on_this (mark sign.Minus) u (place.go (place.below part at)) (place.at_behind next u)) (plus_refused next))
+    (like_this (mark sign.Minus) t (place.go (place.below part at)) (place.at_behind next) (minus_refused next))
 
 module _ (names : Names) (later : Place) (fs : List Fact) where
   -- the tokens are read as the facts
@@ -100,7 +100,7 @@ module _ (names : Names) (later : Place) (fs : List Fact) where
       by_turn names later p fs (x ∷ ts) ts x.0 x.1 place.ends refl (ap (turn names p) head ∙ does)
 
   -- a place is as good as another one, if each token has the same turn there or is refused at the other one
-  accept_like : (p q : Place) (facts : List Fact) (us : List Token) → ((t : Token) → (turn names p t ≡ turn names q t) ⊎ (turn names q t ≡ place.refused)) → Accepts q facts us → Accepts p facts us
+  accept_like : (p q : Place) (facts : List Fact) (us : List Token) → ((t : Token) → Like (turn names p t) (turn names q t)) → Accepts q facts us → Accepts p facts us
   unfolding answer
   accept_like p q facts us like h [] are = h [] are
   accept_like p q facts us like h (x ∷ ts) are =
@@ -115,62 +115,80 @@ module _ (names : Names) (later : Place) (fs : List Fact) where
   accept_tokens : (p : Place) (facts : List Fact) (us vs : List Token) → us ≡ vs → Accepts p facts vs → Accepts p facts us
   accept_tokens p facts us vs same h = λ ts are. h ts (are ∙ same)
 
-  address_accepted : (part : Part) (facts : List Fact) (us : List Token) (at : ℕ) (rest : List Token) → IsAddress names us at → Accepts (after_address part at) facts rest → Accepts (place.address part) facts (us ++ rest)
+  address_accepted : (part : Part) (facts : List Fact) (us : List Token) (at : ℕ) (rest : List Token) → IsAddress names us at → Accepts (place.behind (after_address part at)) facts rest → Accepts (place.address part) facts (us ++ rest)
   address_accepted part facts us at rest (plain is) h =
-      subst (λ (vs : List Token). Accepts (place.address part) facts (vs ++ rest)) (sym is) (accept_go (place.address part) (after_address part at) facts (number at) rest refl h)
+      subst (λ (vs : List Token). Accepts (place.address part) facts (vs ++ rest)) (sym is) (accept_go (place.address part) (place.behind (after_address part at)) facts (number at) rest refl h)
   address_accepted part facts us at rest (named s is stands) h =
       subst (λ (vs : List Token). Accepts (place.address part) facts (vs ++ rest)) (sym is)
       (accept_go (place.address part) (place.moved part at) facts (quoted s) rest (ap (place.named part) stands)
-      (accept_like (place.moved part at) (after_address part at) facts rest (like_moved names part at) h))
+      (accept_like (place.moved part at) (place.behind (after_address part at)) facts rest (like_moved part at) h))
   address_accepted part facts us at rest (above s base n is stands sum fits) h =
       subst (λ (vs : List Token). Accepts (place.address part) facts (vs ++ rest)) (sym is)
       (accept_go (place.address part) (place.moved part base) facts (quoted s) (mark sign.Plus ∷ number n ∷ rest) (ap (place.named part) stands)
       (accept_go (place.moved part base) (place.above part base) facts (mark sign.Plus) (number n ∷ rest) refl
-      (accept_go (place.above part base) (after_address part at) facts (number n) rest
-      (within part base n (omega (arith, sum, fits)) ∙ ap (λ (x : ℕ). place.go (after_address part x)) (sym sum)) h)))
+      (accept_go (place.above part base) (place.behind (after_address part at)) facts (number n) rest
+      (within part base n (omega (arith, sum, fits)) ∙ ap (place.lands part) (sym sum)) h)))
   address_accepted part facts us at rest (below s base n is stands sum) h =
       let distance : base - n ≡ at = omega (arith, sum) in
       subst (λ (vs : List Token). Accepts (place.address part) facts (vs ++ rest)) (sym is)
       (accept_go (place.address part) (place.moved part base) facts (quoted s) (mark sign.Minus ∷ number n ∷ rest) (ap (place.named part) stands)
       (accept_go (place.moved part base) (place.below part base) facts (mark sign.Minus) (number n ∷ rest) refl
-      (accept_go (place.below part base) (after_address part at) facts (number n) rest
-      (back part base n (omega (arith, sum)) ∙ ap (λ (x : ℕ). place.go (after_address part x)) distance) h)))
+      (accept_go (place.below part base) (place.behind (after_address part at)) facts (number n) rest
+      (back part base n (omega (arith, sum)) ∙ ap (place.lands part) distance) h)))
 
-  targets_accepted : (kind : Branching) (from : ℕ) (before : List ℕ) (facts : List Fact) (ws : List Token) (more : List ℕ) (rest : List Token) → AreTargets names ws more
-      → Accepts (place.after_target kind from (before ++ more)) facts rest → Accepts (place.address (place.target kind from before)) facts (ws ++ rest)
-  targets_accepted kind from before facts ws [] rest are h = absurd are
-  targets_accepted kind from before facts ws (a ∷ []) rest is h = address_accepted (place.target kind from before) facts ws a rest is h
-  targets_accepted kind from before facts ws (a ∷ b ∷ more) rest (us, vs, same, is, are) h =
+  addresses_accepted : (owner : Owner) (before : List ℕ) (facts : List Fact) (ws : List Token) (more : List ℕ) (rest : List Token) → AreAddresses names ws more
+      → Accepts (place.whole owner (before ++ more)) facts rest → Accepts (place.address (place.listed owner before)) facts (ws ++ rest)
+  addresses_accepted owner before facts ws [] rest are h = absurd are
+  addresses_accepted owner before facts ws (a ∷ []) rest is h =
+      let list = before ++ a ∷ [] in
+      address_accepted (place.listed owner before) facts ws a rest is
+      (accept_like (place.behind (place.after_listed owner list)) (place.whole owner list) facts rest
+      (λ t. like_this (mark sign.Comma) t _ (place.at_whole owner list) (whole_refuses owner list (mark sign.Comma) refl refl)) h)
+  addresses_accepted owner before facts ws (a ∷ b ∷ more) rest (us, vs, same, is, are) h =
       let tokens : ws ++ rest ≡ us ++ (mark sign.Comma ∷ (vs ++ rest)) = ap (λ (xs : List Token). xs ++ rest) same ∙ append_assoc us (mark sign.Comma ∷ vs) rest in
-      accept_tokens (place.address (place.target kind from before)) facts _ _ tokens
-      (address_accepted (place.target kind from before) facts us a (mark sign.Comma ∷ (vs ++ rest)) is
-      (accept_go (place.after_target kind from (before ++ a ∷ [])) (place.address (place.target kind from (before ++ a ∷ []))) facts (mark sign.Comma) (vs ++ rest) refl
-      (targets_accepted kind from (before ++ a ∷ []) facts vs (b ∷ more) rest are
-      (subst (λ (all : List ℕ). Accepts (place.after_target kind from all) facts rest) (sym (append_assoc before (a ∷ []) (b ∷ more))) h))))
+      accept_tokens (place.address (place.listed owner before)) facts _ _ tokens
+      (address_accepted (place.listed owner before) facts us a (mark sign.Comma ∷ (vs ++ rest)) is
+      (accept_go (place.behind (place.after_listed owner (before ++ a ∷ []))) (place.address (place.listed owner (before ++ a ∷ []))) facts (mark sign.Comma) (vs ++ rest) refl
+      (addresses_accepted owner (before ++ a ∷ []) facts vs (b ∷ more) rest are
+      (subst (λ (all : List ℕ). Accepts (place.whole owner all) facts rest) (sym (append_assoc before (a ∷ []) (b ∷ more))) h))))
 
-  visits_accepted : (side : Side) (n : ℕ) (facts : List Fact) (us : List Token) (at : ℕ) (rest : List Token) → IsAddress names us at
-      → Accepts (place.after_term (with_term side (Visits n at))) facts rest → Accepts (place.address (place.visited side n)) facts ((us ++ mark sign.Close ∷ []) ++ rest)
-  visits_accepted side n facts us at rest is h =
-      accept_tokens (place.address (place.visited side n)) facts _ _ (append_assoc us (mark sign.Close ∷ []) rest)
-      (address_accepted (place.visited side n) facts us at (mark sign.Close ∷ rest) is
-      (accept_go (place.closing_visits side n at) (place.after_term (with_term side (Visits n at))) facts (mark sign.Close) rest refl h))
+  within_accepted : (owner : Owner) (facts : List Fact) (ws : List Token) (within : List ℕ) (rest : List Token) → IsWithin names ws within
+      → Accepts (place.whole owner within) facts rest → Accepts (place.behind (place.within owner)) facts (ws ++ rest)
+  within_accepted owner facts ws [] rest none h =
+      accept_tokens (place.behind (place.within owner)) facts _ _ (ap (λ (xs : List Token). xs ++ rest) none)
+      (accept_like (place.behind (place.within owner)) (place.whole owner []) facts rest
+      (λ t. like_this (word keyword.In) t _ (place.at_whole owner []) (whole_refuses owner [] (word keyword.In) refl refl)) h)
+  within_accepted owner facts ws (a ∷ more) rest (us, same, are) h =
+      accept_tokens (place.behind (place.within owner)) facts _ _ (ap (λ (xs : List Token). xs ++ rest) same)
+      (accept_go (place.behind (place.within owner)) (place.address (place.listed owner [])) facts (word keyword.In) (us ++ rest) refl
+      (addresses_accepted owner [] facts us (a ∷ more) rest are h))
+
+  visits_accepted : (side : Side) (n : ℕ) (facts : List Fact) (us vs : List Token) (at : ℕ) (within : List ℕ) (rest : List Token) → IsAddress names us at → IsWithin names vs within
+      → Accepts (place.after_term (with_term side (Visits n at within))) facts rest → Accepts (place.address (place.visited side n)) facts ((us ++ (vs ++ mark sign.Close ∷ [])) ++ rest)
+  visits_accepted side n facts us vs at within rest is are h =
+      let tokens : (us ++ (vs ++ mark sign.Close ∷ [])) ++ rest ≡ us ++ (vs ++ (mark sign.Close ∷ rest)) = simp append_assoc in
+      accept_tokens (place.address (place.visited side n)) facts _ _ tokens
+      (address_accepted (place.visited side n) facts us at (vs ++ mark sign.Close ∷ rest) is
+      (within_accepted (place.counted side n at) facts vs within (mark sign.Close ∷ rest) are
+      (accept_go (place.whole (place.counted side n at) within) (place.after_term (with_term side (Visits n at within))) facts (mark sign.Close) rest refl h)))
 
   term_accepted : (side : Side) (facts : List Fact) (ts : List Token) (t : Term) (rest : List Token) → IsTerm names ts t
       → Accepts (place.after_term (with_term side t)) facts rest → Accepts (place.term side) facts (ts ++ rest)
   term_accepted side facts ts (Constant n) rest is h =
       accept_tokens (place.term side) facts _ _ (ap (λ (xs : List Token). xs ++ rest) is)
       (accept_go (place.term side) (place.times side n) facts (number n) rest refl
-      (accept_like (place.times side n) (place.after_term (with_term side (Constant n))) facts rest (like_times names side n) h))
-  term_accepted side facts ts (Visits n at) rest (us, is, inl (once, same)) h =
+      (accept_like (place.times side n) (place.after_term (with_term side (Constant n))) facts rest
+      (λ t. like_this (mark sign.Star) t _ (place.at_after_term (with_term side (Constant n))) (star_refused (with_term side (Constant n)))) h))
+  term_accepted side facts ts (Visits n at within) rest (us, vs, is, are, inl (once, same)) h =
       accept_tokens (place.term side) facts _ _ (ap (λ (xs : List Token). xs ++ rest) same)
-      (accept_go (place.term side) (place.address (place.visited side 1)) facts (mark sign.Open) ((us ++ mark sign.Close ∷ []) ++ rest) refl
-      (visits_accepted side 1 facts us at rest is (subst (λ (k : ℕ). Accepts (place.after_term (with_term side (Visits k at))) facts rest) once h)))
-  term_accepted side facts ts (Visits n at) rest (us, is, inr same) h =
+      (accept_go (place.term side) (place.address (place.visited side 1)) facts (mark sign.Open) ((us ++ (vs ++ mark sign.Close ∷ [])) ++ rest) refl
+      (visits_accepted side 1 facts us vs at within rest is are (subst (λ (k : ℕ). Accepts (place.after_term (with_term side (Visits k at within))) facts rest) once h)))
+  term_accepted side facts ts (Visits n at within) rest (us, vs, is, are, inr same) h =
       accept_tokens (place.term side) facts _ _ (ap (λ (xs : List Token). xs ++ rest) same)
       (accept_go (place.term side) (place.times side n) facts (number n) _ refl
       (accept_go (place.times side n) (place.opening side n) facts (mark sign.Star) _ refl
-      (accept_go (place.opening side n) (place.address (place.visited side n)) facts (mark sign.Open) ((us ++ mark sign.Close ∷ []) ++ rest) refl
-      (visits_accepted side n facts us at rest is h))))
+      (accept_go (place.opening side n) (place.address (place.visited side n)) facts (mark sign.Open) ((us ++ (vs ++ mark sign.Close ∷ [])) ++ rest) refl
+      (visits_accepted side n facts us vs at within rest is are h))))
 
   sum_accepted : (side : Side) (facts : List Fact) (ws : List Token) (terms : List Term) (rest : List Token) → IsSum names ws terms
       → Accepts (place.after_term (with_terms side terms)) facts rest → Accepts (place.term side) facts (ws ++ rest)
@@ -184,50 +202,45 @@ module _ (names : Names) (later : Place) (fs : List Fact) where
       (sum_accepted (with_term side t) facts vs (u ∷ terms) rest are
       (subst (λ (s : Side). Accepts (place.after_term s) facts rest) (term_first side t (u ∷ terms)) h))))
 
-  branching_accepted : (kind : Branching) (facts : List Fact) (us : List Token) (at : ℕ) (vs : List Token) (targets : List ℕ) (rest : List Token) → IsAddress names us at → AreTargets names vs targets
-      → Accepts later (facts ++ branching_fact kind at targets ∷ []) rest
-      → Accepts (place.address (place.branching kind)) facts (us ++ (word keyword.To ∷ (vs ++ mark sign.Semicolon ∷ rest)))
-  branching_accepted kind facts us at vs targets rest is are h =
-      address_accepted (place.branching kind) facts us at (word keyword.To ∷ (vs ++ mark sign.Semicolon ∷ rest)) is
-      (accept_go (place.to kind at) (place.address (place.target kind at [])) facts (word keyword.To) (vs ++ mark sign.Semicolon ∷ rest) refl
-      (targets_accepted kind at [] facts vs targets (mark sign.Semicolon ∷ rest) are
-      (accept_fact (place.after_target kind at targets) (branching_fact kind at targets) facts (mark sign.Semicolon) rest refl h)))
+  branching_accepted : (p : Place) (kind : Branching) (w : Word) → turn names p (word w) ≡ place.go (place.address (place.branching kind)) → (facts : List Fact) (ts : List Token) (at : ℕ) (list : List ℕ) (rest : List Token)
+      → IsBranching names w ts at list → Accepts later (facts ++ branching_fact kind at list ∷ []) rest → Accepts p facts (ts ++ rest)
+  branching_accepted p kind w begins facts ts at list rest (us, vs, same, is, are) h =
+      let tokens : (word w ∷ us ++ (word keyword.To ∷ vs ++ mark sign.Semicolon ∷ [])) ++ rest ≡ word w ∷ (us ++ (word keyword.To ∷ (vs ++ mark sign.Semicolon ∷ rest))) = simp append_assoc in
+      accept_tokens p facts _ _ (ap (λ (xs : List Token). xs ++ rest) same ∙ tokens)
+      (accept_go p (place.address (place.branching kind)) facts (word w) _ begins
+      (address_accepted (place.branching kind) facts us at (word keyword.To ∷ (vs ++ mark sign.Semicolon ∷ rest)) is
+      (accept_go (place.behind (place.to kind at)) (place.address (place.listed (place.targets kind at) [])) facts (word keyword.To) (vs ++ mark sign.Semicolon ∷ rest) refl
+      (addresses_accepted (place.targets kind at) [] facts vs list (mark sign.Semicolon ∷ rest) are
+      (accept_fact (place.whole (place.targets kind at) list) (branching_fact kind at list) facts (mark sign.Semicolon) rest refl h)))))
 
-  bound_turns : (at : ℕ) (t : Token) (b : Option ℕ) → IsBound t b → turn names (place.bound at) t ≡ place.go (place.closing (Loop at b))
-  bound_turns at t None is = ap (turn names (place.bound at)) is
-  bound_turns at t (Some n) is = ap (turn names (place.bound at)) is
+  bound_turns : (at : ℕ) (t : Token) (b : Option ℕ) → IsBound t b → turn names (place.behind (place.bound at)) t ≡ place.go (place.behind (place.within (place.bounded at b)))
+  bound_turns at t None is = ap (place.at_behind (place.bound at)) is
+  bound_turns at t (Some n) is = ap (place.at_behind (place.bound at)) is
 
   pub fact_accepted : (p : Place) → ((w : Word) → turn names p (word w) ≡ place.begin_fact w) → (facts : List Fact) (ts : List Token) (f : Fact) (rest : List Token) → IsFact names ts f
       → Accepts later (facts ++ f ∷ []) rest → Accepts p facts (ts ++ rest)
-  fact_accepted p starts facts ts (Loop at b) rest (us, t, same, is, bounds) h =
-      let tokens : ts ++ rest ≡ word keyword.Loop ∷ (us ++ (t ∷ mark sign.Semicolon ∷ rest)) = ap (λ (xs : List Token). xs ++ rest) same ∙ append_assoc (word keyword.Loop ∷ us) (t ∷ mark sign.Semicolon ∷ []) rest in
-      accept_tokens p facts _ _ tokens
+  fact_accepted p starts facts ts (Loop at b within) rest (us, t, vs, same, is, bounds, are) h =
+      let tokens : (word keyword.Loop ∷ us ++ (t ∷ (vs ++ mark sign.Semicolon ∷ []))) ++ rest ≡ word keyword.Loop ∷ (us ++ (t ∷ (vs ++ (mark sign.Semicolon ∷ rest)))) = simp append_assoc in
+      accept_tokens p facts _ _ (ap (λ (xs : List Token). xs ++ rest) same ∙ tokens)
       (accept_go p (place.address place.looped) facts (word keyword.Loop) _ (starts keyword.Loop)
-      (address_accepted place.looped facts us at (t ∷ mark sign.Semicolon ∷ rest) is
-      (accept_go (place.bound at) (place.closing (Loop at b)) facts t (mark sign.Semicolon ∷ rest) (bound_turns at t b bounds)
-      (accept_fact (place.closing (Loop at b)) (Loop at b) facts (mark sign.Semicolon) rest refl h))))
-  fact_accepted p starts facts ts (Multibranch at targets) rest (us, vs, same, is, are) h =
-      let tokens : (word keyword.Multibranch ∷ us ++ (word keyword.To ∷ vs ++ mark sign.Semicolon ∷ [])) ++ rest ≡ word keyword.Multibranch ∷ (us ++ (word keyword.To ∷ (vs ++ mark sign.Semicolon ∷ rest))) = simp append_assoc in
-      accept_tokens p facts _ _ (ap (λ (xs : List Token). xs ++ rest) same ∙ tokens)
-      (accept_go p (place.address (place.branching place.branches)) facts (word keyword.Multibranch) _ (starts keyword.Multibranch)
-      (branching_accepted place.branches facts us at vs targets rest is are h))
-  fact_accepted p starts facts ts (Multicall at targets) rest (us, vs, same, is, are) h =
-      let tokens : (word keyword.Multicall ∷ us ++ (word keyword.To ∷ vs ++ mark sign.Semicolon ∷ [])) ++ rest ≡ word keyword.Multicall ∷ (us ++ (word keyword.To ∷ (vs ++ mark sign.Semicolon ∷ rest))) = simp append_assoc in
-      accept_tokens p facts _ _ (ap (λ (xs : List Token). xs ++ rest) same ∙ tokens)
-      (accept_go p (place.address (place.branching place.calls)) facts (word keyword.Multicall) _ (starts keyword.Multicall)
-      (branching_accepted place.calls facts us at vs targets rest is are h))
+      (address_accepted place.looped facts us at (t ∷ (vs ++ (mark sign.Semicolon ∷ rest))) is
+      (accept_go (place.behind (place.bound at)) (place.behind (place.within (place.bounded at b))) facts t (vs ++ (mark sign.Semicolon ∷ rest)) (bound_turns at t b bounds)
+      (within_accepted (place.bounded at b) facts vs within (mark sign.Semicolon ∷ rest) are
+      (accept_fact (place.whole (place.bounded at b) within) (Loop at b within) facts (mark sign.Semicolon) rest refl h)))))
+  fact_accepted p starts facts ts (Multibranch at list) rest is h = branching_accepted p Jump keyword.Multibranch (starts keyword.Multibranch) facts ts at list rest is h
+  fact_accepted p starts facts ts (Multicall at list) rest is h = branching_accepted p Call keyword.Multicall (starts keyword.Multicall) facts ts at list rest is h
   fact_accepted p starts facts ts (Noreturn at) rest (us, same, is) h =
       let tokens : ts ++ rest ≡ word keyword.Noreturn ∷ (us ++ mark sign.Semicolon ∷ rest) = ap (λ (xs : List Token). xs ++ rest) same ∙ append_assoc (word keyword.Noreturn ∷ us) (mark sign.Semicolon ∷ []) rest in
       accept_tokens p facts _ _ tokens
       (accept_go p (place.address place.noreturn) facts (word keyword.Noreturn) _ (starts keyword.Noreturn)
       (address_accepted place.noreturn facts us at (mark sign.Semicolon ∷ rest) is
-      (accept_fact (place.closing (Noreturn at)) (Noreturn at) facts (mark sign.Semicolon) rest refl h)))
+      (accept_fact (place.behind (place.closing (Noreturn at))) (Noreturn at) facts (mark sign.Semicolon) rest refl h)))
   fact_accepted p starts facts ts (Checksum s n) rest same h =
       accept_tokens p facts _ _ (ap (λ (xs : List Token). xs ++ rest) same)
       (accept_go p place.name facts (word keyword.Checksum) _ (starts keyword.Checksum)
       (accept_go place.name (place.value s) facts (quoted s) _ refl
-      (accept_go (place.value s) (place.closing (Checksum s n)) facts (number n) _ refl
-      (accept_fact (place.closing (Checksum s n)) (Checksum s n) facts (mark sign.Semicolon) rest refl h))))
+      (accept_go (place.value s) (place.behind (place.closing (Checksum s n))) facts (number n) _ refl
+      (accept_fact (place.behind (place.closing (Checksum s n))) (Checksum s n) facts (mark sign.Semicolon) rest refl h))))
   fact_accepted p starts facts ts (Limit first second) rest (us, vs, same, are, others) h =
       let tokens : (word keyword.Limit ∷ us ++ (mark sign.AtMost ∷ vs ++ mark sign.Semicolon ∷ [])) ++ rest ≡ word keyword.Limit ∷ (us ++ (mark sign.AtMost ∷ (vs ++ mark sign.Semicolon ∷ rest))) = simp append_assoc in
       accept_tokens p facts _ _ (ap (λ (xs : List Token). xs ++ rest) same ∙ tokens)

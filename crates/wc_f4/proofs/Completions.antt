@@ -7,9 +7,9 @@ use Rattle.wc_f4.specs.declared.tokens.Mark.TheVariants as sign
 use Rattle.wc_f4.specs.declared.tokens.Word.TheVariants as keyword
 use Rattle.wc_f4.specs.Grammar.{Names, IsFact, plain}
 use Rattle.wc_f4.specs.Places as place
-use Rattle.wc_f4.specs.Places.{Branching, Part, Place, Side, branching_fact, with_term, with_terms}
+use Rattle.wc_f4.specs.Places.{Owner, Part, Place, Side, after_address, branching_fact, with_term, with_terms}
 use Rattle.wc_f4.specs.Tokens.{Token, word, number, quoted, mark}
-use Rattle.wc_f4.proofs.GrammarLemmas.{Done, AtBound, AtTarget, Ended, AtTerm, Behind, AtAddress, Holds}
+use Rattle.wc_f4.proofs.GrammarLemmas.{Done, AtList, Ended, AtTerm, AtAddress, Behind, Holds, Whole}
 
 -- the end of a text may stand at the place
 abbrev pub IsOutside : Place → Type 0
@@ -27,12 +27,6 @@ module _ (names : Names) where
   later_ends : (vs ws : List Token) → Ending (vs ++ ws) → Ending vs
   later_ends vs ws (more, fact, is) = (ws ++ more, fact, subst (λ (ts : List Token). IsFact names ts fact) (append_assoc vs ws more) is)
 
-  bound_ends : (at : ℕ) (vs : List Token) → AtBound names at vs → Ending vs
-  bound_ends at vs h = later_ends vs (mark sign.Question ∷ []) (done_ends (Loop at None) _ (h (mark sign.Question) None refl))
-
-  target_ends : (kind : Branching) (from : ℕ) (before : List ℕ) (vs : List Token) → AtTarget names kind from before vs → Ending vs
-  target_ends kind from before vs h = later_ends vs (number 0 ∷ []) (done_ends (branching_fact kind from (before ++ 0 ∷ [])) _ (h (number 0 ∷ []) (0 ∷ []) (plain refl)))
-
   ended_ends : (side : Side) (vs : List Token) → Ended names side vs → Ending vs
   ended_ends (place.left terms) vs h = later_ends vs (mark sign.AtMost ∷ []) (later_ends _ (number 0 ∷ []) (done_ends (Limit terms (Constant 0 ∷ [])) _ (h (number 0 ∷ []) (Constant 0 ∷ []) refl)))
   ended_ends (place.right first terms) vs h = done_ends (Limit first terms) vs h
@@ -40,15 +34,23 @@ module _ (names : Names) where
   term_ends : (side : Side) (vs : List Token) → AtTerm names side vs → Ending vs
   term_ends side vs h = later_ends vs (number 0 ∷ []) (ended_ends (with_terms side (Constant 0 ∷ [])) (vs ++ number 0 ∷ []) (h (number 0 ∷ []) (Constant 0 ∷ []) refl))
 
-  behind_ends : (part : Part) (at : ℕ) (vs : List Token) → Behind names part at vs → Ending vs
-  behind_ends place.looped at vs h = bound_ends at vs h
-  behind_ends (place.branching kind) at vs h = later_ends vs (word keyword.To ∷ []) (target_ends kind at [] _ h)
-  behind_ends (place.target kind from before) at vs (done, more) = done_ends (branching_fact kind from (before ++ at ∷ [])) vs done
-  behind_ends place.noreturn at vs h = done_ends (Noreturn at) vs h
-  behind_ends (place.visited side n) at vs (ended, more) = later_ends vs (mark sign.Close ∷ []) (ended_ends (with_term side (Visits n at)) _ ended)
+  whole_ends : (owner : Owner) (addresses : List ℕ) (vs : List Token) → Whole names owner addresses vs → Ending vs
+  whole_ends (place.targets kind at) to vs h = done_ends (branching_fact kind at to) vs h
+  whole_ends (place.bounded at b) within vs h = done_ends (Loop at b within) vs h
+  whole_ends (place.counted side n at) within vs (ended, more) = later_ends vs (mark sign.Close ∷ []) (ended_ends (with_term side (Visits n at within)) _ ended)
+
+  list_ends : (owner : Owner) (before : List ℕ) (vs : List Token) → AtList names owner before vs → Ending vs
+  list_ends owner before vs h = later_ends vs (number 0 ∷ []) (whole_ends owner (before ++ 0 ∷ []) _ (h (number 0 ∷ []) (0 ∷ []) (plain refl)))
+
+  behind_ends : (next : place.Behind) (vs : List Token) → Behind names next vs → Ending vs
+  behind_ends (place.bound at) vs h = later_ends vs (mark sign.Question ∷ []) (whole_ends (place.bounded at None) [] _ (h (mark sign.Question) None refl).0)
+  behind_ends (place.to kind at) vs h = later_ends vs (word keyword.To ∷ []) (list_ends (place.targets kind at) [] _ h)
+  behind_ends (place.within owner) vs (done, more) = whole_ends owner [] vs done
+  behind_ends (place.after_listed owner before) vs (done, more) = whole_ends owner before vs done
+  behind_ends (place.closing fact) vs h = done_ends fact vs h
 
   address_ends : (part : Part) (vs : List Token) → AtAddress names part vs → Ending vs
-  address_ends part vs h = later_ends vs (number 0 ∷ []) (behind_ends part 0 _ (h (number 0 ∷ []) 0 (plain refl)))
+  address_ends part vs h = later_ends vs (number 0 ∷ []) (behind_ends (after_address part 0) _ (h (number 0 ∷ []) 0 (plain refl)))
 
   -- the end of the text, or the rest of a fact, may stand next
   pub ends_or : (p : Place) (vs : List Token) → Holds names p vs → IsOutside p ⊎ Ending vs
@@ -62,18 +64,15 @@ module _ (names : Names) where
       )
   ends_or (place.address part) vs h = inr (address_ends part vs h)
   ends_or (place.label part) vs h = absurd h
-  ends_or (place.moved part at) vs (small, here, up, down) = inr (behind_ends part at vs here)
-  ends_or (place.above part at) vs (small, h) = inr (later_ends vs (number 0 ∷ []) (behind_ends part (at + 0) _ (h 0 (omega arith))))
-  ends_or (place.below part at) vs h = inr (later_ends vs (number 0 ∷ []) (behind_ends part (at - 0) _ (h 0 (omega arith))))
-  ends_or (place.bound at) vs h = inr (bound_ends at vs h)
-  ends_or (place.to kind at) vs h = inr (later_ends vs (word keyword.To ∷ []) (target_ends kind at [] _ h))
-  ends_or (place.after_target kind at before) vs (done, more) = inr (done_ends (branching_fact kind at before) vs done)
+  ends_or (place.moved part at) vs (small, here, up, down) = inr (behind_ends (after_address part at) vs here)
+  ends_or (place.above part at) vs (small, h) = inr (later_ends vs (number 0 ∷ []) (behind_ends (after_address part (at + 0)) _ (h 0 (omega arith))))
+  ends_or (place.below part at) vs h = inr (later_ends vs (number 0 ∷ []) (behind_ends (after_address part (at - 0)) _ (h 0 (omega arith))))
+  ends_or (place.behind next) vs h = inr (behind_ends next vs h)
+  ends_or (place.whole owner addresses) vs h = absurd h
   ends_or place.name vs h = inr (later_ends vs (quoted [] ∷ []) (later_ends _ (number 0 ∷ []) (done_ends (Checksum [] 0) _ (h [] 0))))
   ends_or (place.value s) vs h = inr (later_ends vs (number 0 ∷ []) (done_ends (Checksum s 0) _ (h 0)))
-  ends_or (place.closing fact) vs h = inr (done_ends fact vs h)
   ends_or (place.term side) vs h = inr (term_ends side vs h)
   ends_or (place.times side n) vs ((ended, more), opens) = inr (ended_ends (with_term side (Constant n)) vs ended)
   ends_or (place.opening side n) vs h = inr (later_ends vs (mark sign.Open ∷ []) (address_ends (place.visited side n) _ h))
-  ends_or (place.closing_visits side n at) vs (ended, more) = inr (later_ends vs (mark sign.Close ∷ []) (ended_ends (with_term side (Visits n at)) _ ended))
   ends_or (place.after_term side) vs (ended, more) = inr (ended_ends side vs ended)
   ends_or (place.ended side) vs h = absurd h

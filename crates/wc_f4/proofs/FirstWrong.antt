@@ -9,12 +9,12 @@ use Rattle.wc_f4.specs.declared.stops.Stop.{Stop}
 use Rattle.wc_f4.specs.declared.stops.Stop.TheVariants.{Bad, Unknown, Memory}
 use Rattle.wc_f4.specs.Grammar.{Names, IsText, Wanted, any, one, IsWhole, Begins}
 use Rattle.wc_f4.specs.Places as place
-use Rattle.wc_f4.specs.Places.{Answer, Goes, Part, Place, Turn, answer, follow, turn}
+use Rattle.wc_f4.specs.Places.{Answer, Goes, Part, Place, Turn, after_address, answer, follow, turn}
 use Rattle.wc_f4.specs.Reading.{IsUnknown, Refuses, found, names_of, trouble_of, with_name}
 use Rattle.wc_f4.specs.Stated.{IsStated}
 use Rattle.std.specs.List.{AllByRecursion}
 use Rattle.wc_f4.specs.Tokens.{Token, Placed, tokens_of, placed_tokens, word, number, quoted, mark, wrong, text_end}
-use Rattle.wc_f4.proofs.Acceptance.{first_of, later_of, whole_accepted}
+use Rattle.wc_f4.proofs.Acceptance.{first_of, later_of, whole_accepted, whole_refuses}
 use Rattle.wc_f4.proofs.Completions.{IsOutside}
 use Rattle.wc_f4.proofs.GrammarLemmas.{Bounded, IsInner}
 use Rattle.wc_f4.proofs.ParsingLemmas.{by_turn}
@@ -159,12 +159,17 @@ IsEndTurn p place.ends = IsOutside p
 IsEndTurn p place.refused = Unit {0}
 IsEndTurn p place.unknown = Unit {0}
 
+behind_end : (next : place.Behind) → place.at_behind next text_end ≡ place.refused
+behind_end (place.bound at) = refl
+behind_end (place.to kind at) = refl
+behind_end (place.within owner) = whole_refuses owner [] text_end refl refl
+behind_end (place.after_listed owner before) = whole_refuses owner before text_end refl refl
+behind_end (place.closing fact) = refl
+
 end_turns : (names : Names) (p : Place) → IsEndTurn p (turn names p text_end)
-end_turns names (place.moved place.looped at) = tt
-end_turns names (place.moved (place.branching kind) at) = tt
-end_turns names (place.moved (place.target kind from before) at) = tt
-end_turns names (place.moved place.noreturn at) = tt
-end_turns names (place.moved (place.visited side n) at) = tt
+end_turns names (place.moved part at) = subst (IsEndTurn (place.moved part at)) (sym (behind_end (after_address part at))) tt
+end_turns names (place.behind next) = subst (IsEndTurn (place.behind next)) (sym (behind_end next)) tt
+end_turns names (place.whole owner list) = subst (IsEndTurn (place.whole owner list)) (sym (whole_refuses owner list text_end refl refl)) tt
 end_turns names (place.times (place.left terms) n) = tt
 end_turns names (place.times (place.right first terms) n) = tt
 end_turns names (place.after_term (place.left terms)) = tt
@@ -278,30 +283,26 @@ found_small (Err f) at is = absurd (cc)
 image_bounded : (image : Image) → Bounded (names_of image)
 image_bounded image s at is = found_small (find_of image s) at is
 
--- the tokens of a text from a place on, as the reader has them
-pub reads_whole : (wanted : Wanted) (image : Image) (text : List ℕ) (ts : List Placed) (fs : List Fact) → ts ≡ placed_tokens text
-    → answer (names_of image) (later_of wanted) (first_of wanted) [] ts ≡ Ok fs → IsWhole wanted (names_of image) (tokens_of (placed_tokens text)) fs
-reads_whole wanted image text ts fs same is =
-    subst (Outcome wanted (names_of image) (placed_tokens text)) (ap (answer (names_of image) (later_of wanted) (first_of wanted) []) (sym same) ∙ is)
-    (outcome wanted (names_of image) (image_bounded image) (placed_tokens text) (tokens_ended text 0 0))
+outcome_of : (wanted : Wanted) (image : Image) (text : List ℕ) (given : Answer) → answer (names_of image) (later_of wanted) (first_of wanted) [] (placed_tokens text) ≡ given
+    → Outcome wanted (names_of image) (placed_tokens text) given
+outcome_of wanted image text given is =
+    subst (Outcome wanted (names_of image) (placed_tokens text)) is (outcome wanted (names_of image) (image_bounded image) (placed_tokens text) (tokens_ended text 0 0))
 
-fails_with : (wanted : Wanted) (image : Image) (text : List ℕ) (ts : List Placed) (stop : Stop) → ts ≡ placed_tokens text
-    → answer (names_of image) (later_of wanted) (first_of wanted) [] ts ≡ Err stop → Outcome wanted (names_of image) (placed_tokens text) (Err stop)
-fails_with wanted image text ts stop same is =
-    subst (Outcome wanted (names_of image) (placed_tokens text)) (ap (answer (names_of image) (later_of wanted) (first_of wanted) []) (sym same) ∙ is)
-    (outcome wanted (names_of image) (image_bounded image) (placed_tokens text) (tokens_ended text 0 0))
+pub reads_whole : (wanted : Wanted) (image : Image) (text : List ℕ) (fs : List Fact) → answer (names_of image) (later_of wanted) (first_of wanted) [] (placed_tokens text) ≡ Ok fs
+    → IsWhole wanted (names_of image) (tokens_of (placed_tokens text)) fs
+reads_whole wanted image text fs is = outcome_of wanted image text (Ok fs) is
 
-pub refuses : {X : Type 0} (wanted : Wanted) (image : Image) (text : List ℕ) (ts : List Placed) (stop : Stop) (k : X → Answer) → ts ≡ placed_tokens text
-    → Goes {X = X} (Err stop) (answer (names_of image) (later_of wanted) (first_of wanted) [] ts) k → Refuses wanted (names_of image) text (trouble_of text stop)
-refuses wanted image text ts (Memory e) k same goes = tt
-refuses wanted image text ts (Bad at) k same goes =
-    let (front, t, behind, tokens, begins, none, cause) = fails_with wanted image text ts (Bad at) same goes in
+pub refuses : {X : Type 0} (wanted : Wanted) (image : Image) (text : List ℕ) (stop : Stop) (k : X → Answer)
+    → Goes {X = X} (Err stop) (answer (names_of image) (later_of wanted) (first_of wanted) [] (placed_tokens text)) k → Refuses wanted (names_of image) text (trouble_of text stop)
+refuses wanted image text (Memory e) k goes = tt
+refuses wanted image text (Bad at) k goes =
+    let (front, t, behind, tokens, begins, none, cause) = outcome_of wanted image text (Err (Bad at)) goes in
     record { front = front; token = t; place = at; behind = behind; tokens = tokens; right = begins; wrong = none; fault_of = (refl, cause) }
-refuses wanted image text ts (Unknown at) k same goes =
-    let (front, t, behind, tokens, begins, none, cause) = fails_with wanted image text ts (Unknown at) same goes in
+refuses wanted image text (Unknown at) k goes =
+    let (front, t, behind, tokens, begins, none, cause) = outcome_of wanted image text (Err (Unknown at)) goes in
     record { front = front; token = t; place = at; behind = behind; tokens = tokens; right = begins; wrong = none; fault_of = (refl, cause) }
 
-pub facts_stated : (wanted : Wanted) (image : Image) (text : List ℕ) (ts : List Placed) (fs : List Fact) → ts ≡ placed_tokens text
-    → answer (names_of image) (later_of wanted) (first_of wanted) [] ts ≡ Ok fs → AllByRecursion IsStated fs
-facts_stated wanted image text ts fs same is =
-    text_stated (names_of image) (image_bounded image) (tokens_of (placed_tokens text)) fs (reads_whole wanted image text ts fs same is).0 (tokens_sound text 0 0)
+pub facts_stated : (wanted : Wanted) (image : Image) (text : List ℕ) (fs : List Fact) → answer (names_of image) (later_of wanted) (first_of wanted) [] (placed_tokens text) ≡ Ok fs
+    → AllByRecursion IsStated fs
+facts_stated wanted image text fs is =
+    text_stated (names_of image) (image_bounded image) (tokens_of (placed_tokens text)) fs (reads_whole wanted image text fs is).0 (tokens_sound text 0 0)

@@ -3,9 +3,11 @@ pub mod Completions
 pub mod FirstWrong
 pub mod GivenBack
 pub mod GrammarLemmas
+pub mod NameOrderLemmas
 pub mod ParsingLemmas
 pub mod PrintedFacts
 pub mod PrintedTokens
+pub mod PrintingLemmas
 pub mod RunLemmas
 pub mod Sayings
 pub mod StatedLemmas

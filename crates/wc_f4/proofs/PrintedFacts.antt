@@ -10,12 +10,13 @@ use Rattle.wc_model.specs.declared.flow_facts.Fact.TheVariants.{Loop, Multibranc
 use Rattle.wc_model.specs.declared.flow_facts.Term.{Term}
 use Rattle.wc_model.specs.declared.flow_facts.Term.TheVariants.{Constant, Visits}
 use Rattle.wc_f4.specs.declared.tokens.Mark.TheVariants as sign
+use Rattle.wc_f4.specs.declared.tokens.Word.{Word}
 use Rattle.wc_f4.specs.declared.tokens.Word.TheVariants as keyword
-use Rattle.wc_f4.specs.FactText.{bound_text, fact_text, separated, term_text}
-use Rattle.wc_f4.specs.Grammar.{Names, plain, AreTargets, IsFact, IsBound, IsSum, IsTerm, IsWhole, one}
+use Rattle.wc_f4.specs.FactText.{bound_text, fact_text, branching_text, separated, term_text, times_text, within_text}
+use Rattle.wc_f4.specs.Grammar.{Names, plain, AreAddresses, IsBranching, IsFact, IsBound, IsSum, IsTerm, IsWhole, IsWithin, bracketed, one}
 use Rattle.wc_f4.specs.Stated.{IsSmall, IsStated, IsStatedTerm}
 use Rattle.wc_f4.specs.Tokens.{Token, word, number, quoted, mark, text_end}
-use Rattle.wc_f4.proofs.PrintedTokens.{Breaks, breaks, lex, lex_address, lex_at_most, lex_checksum, lex_close, lex_comma, lex_decimal, lex_limit, lex_loop, lex_multibranch, lex_multicall, lex_noreturn, lex_nothing, lex_open, lex_plus, lex_question, lex_quoted, lex_semicolon, lex_space, lex_star, lex_to}
+use Rattle.wc_f4.proofs.PrintedTokens.{Breaks, breaks, lex, lex_address, lex_at_most, lex_checksum, lex_close, lex_comma, lex_decimal, lex_in, lex_limit, lex_loop, lex_multibranch, lex_multicall, lex_noreturn, lex_nothing, lex_open, lex_plus, lex_question, lex_quoted, lex_semicolon, lex_space, lex_star, lex_to}
 
 the_end : lex (59 ∷ []) ≡ mark sign.Semicolon ∷ text_end ∷ []
 the_end = lex_semicolon [] ∙ ap (λ (ts : List Token). mark sign.Semicolon ∷ ts) lex_nothing
@@ -34,73 +35,112 @@ abbrev bound_token : Option ℕ → Token
 bound_token None = mark sign.Question
 bound_token (Some n) = number n
 
-lex_bound : (b : Option ℕ) → IfSome b IsSmall → lex (bound_text b ++ 59 ∷ []) ≡ bound_token b ∷ mark sign.Semicolon ∷ text_end ∷ []
-lex_bound None small = lex_question (59 ∷ []) ∙ then _ _ _ the_end
-lex_bound (Some n) small = lex_decimal n (59 ∷ []) small (before_end []) ∙ then _ _ _ the_end
+lex_bound : (b : Option ℕ) (rest : List ℕ) → IfSome b IsSmall → Breaks rest → lex (bound_text b ++ rest) ≡ bound_token b ∷ lex rest
+lex_bound None rest small ends = lex_question rest
+lex_bound (Some n) rest small ends = lex_decimal n rest small ends
 
--- targets
-abbrev more_targets : List ℕ → List Token
-more_targets [] = []
-more_targets (a ∷ to) = mark sign.Comma ∷ number a ∷ more_targets to
+bound_is : (b : Option ℕ) → IsBound (bound_token b) b
+bound_is None = refl
+bound_is (Some n) = refl
+
+-- lists of addresses
+abbrev more_addresses : List ℕ → List Token
+more_addresses [] = []
+more_addresses (a ∷ list) = mark sign.Comma ∷ number a ∷ more_addresses list
 
 separated_cons : {X : Type 0} (between_them : List ℕ) (text : X → List ℕ) (x : X) (xs : List X) → separated between_them text (x ∷ xs) ≡ (between_them ++ text x) ++ separated between_them text xs
 separated_cons between_them text x xs = flat_map-cons (λ (y : _). between_them ++ text y) x xs
 
-targets_break : (to : List ℕ) (rest : List ℕ) → Breaks rest → Breaks (separated (codes ", ") address to ++ rest)
-targets_break [] rest ends = ends
-targets_break (a ∷ to) rest ends = subst (λ (t : List ℕ). Breaks (t ++ rest)) (sym (separated_cons (codes ", ") address a to)) (breaks 44 _ refl refl refl)
+addresses_break : (list : List ℕ) (rest : List ℕ) → Breaks rest → Breaks (separated (codes ", ") address list ++ rest)
+addresses_break [] rest ends = ends
+addresses_break (a ∷ list) rest ends = subst (λ (t : List ℕ). Breaks (t ++ rest)) (sym (separated_cons (codes ", ") address a list)) (breaks 44 _ refl refl refl)
 
-lex_more_targets : (to : List ℕ) (rest : List ℕ) → AllByRecursion IsSmall to → Breaks rest → lex (separated (codes ", ") address to ++ rest) ≡ more_targets to ++ lex rest
-lex_more_targets [] rest small ends = refl
-lex_more_targets (a ∷ to) rest small ends =
-    ap (λ (t : List ℕ). lex (t ++ rest)) (separated_cons (codes ", ") address a to)
-    ∙ lex_comma (32 ∷ (address a ++ (separated (codes ", ") address to ++ rest)))
-    ∙ then _ _ _ (lex_space (address a ++ (separated (codes ", ") address to ++ rest)) ∙ lex_address a (separated (codes ", ") address to ++ rest) small.0 (targets_break to rest ends)
-    ∙ then _ _ _ (lex_more_targets to rest small.1 ends))
+lex_more_addresses : (list : List ℕ) (rest : List ℕ) → AllByRecursion IsSmall list → Breaks rest → lex (separated (codes ", ") address list ++ rest) ≡ more_addresses list ++ lex rest
+lex_more_addresses [] rest small ends = refl
+lex_more_addresses (a ∷ list) rest small ends =
+    ap (λ (t : List ℕ). lex (t ++ rest)) (separated_cons (codes ", ") address a list)
+    ∙ lex_comma (32 ∷ (address a ++ (separated (codes ", ") address list ++ rest)))
+    ∙ then _ _ _ (lex_space (address a ++ (separated (codes ", ") address list ++ rest)) ∙ lex_address a (separated (codes ", ") address list ++ rest) small.0 (addresses_break list rest ends)
+    ∙ then _ _ _ (lex_more_addresses list rest small.1 ends))
 
-targets_are : (names : Names) (a : ℕ) (to : List ℕ) → AreTargets names (number a ∷ more_targets to) (a ∷ to)
-targets_are names a [] = plain refl
-targets_are names a (b ∷ to) = (number a ∷ [], number b ∷ more_targets to, refl, plain refl, targets_are names b to)
+addresses_are : (names : Names) (a : ℕ) (list : List ℕ) → AreAddresses names (number a ∷ more_addresses list) (a ∷ list)
+addresses_are names a [] = plain refl
+addresses_are names a (b ∷ list) = (number a ∷ [], number b ∷ more_addresses list, refl, plain refl, addresses_are names b list)
 
--- an address, and targets behind it
-lex_branching : (at a : ℕ) (to : List ℕ) → IsSmall at → IsSmall a → AllByRecursion IsSmall to
-    → lex (address at ++ (32 ∷ 116 ∷ 111 ∷ 32 ∷ (address a ++ (separated (codes ", ") address to ++ 59 ∷ []))))
-    ≡ number at ∷ word keyword.To ∷ number a ∷ (more_targets to ++ mark sign.Semicolon ∷ text_end ∷ [])
-lex_branching at a to at_small a_small small =
-    let rest = separated (codes ", ") address to ++ 59 ∷ [] in
-    lex_address at (32 ∷ 116 ∷ 111 ∷ 32 ∷ (address a ++ rest)) at_small (before_blank _)
-    ∙ then _ _ _ (lex_space (116 ∷ 111 ∷ 32 ∷ (address a ++ rest)) ∙ lex_to (address a ++ rest)
-    ∙ then _ _ _ (lex_address a rest a_small (targets_break to (59 ∷ []) (before_end []))
-    ∙ then _ _ _ (lex_more_targets to (59 ∷ []) small (before_end []) ∙ ap (λ (ts : List Token). more_targets to ++ ts) the_end)))
+lex_addresses : (a : ℕ) (list rest : List ℕ) → IsSmall a → AllByRecursion IsSmall list → Breaks rest
+    → lex (address a ++ (separated (codes ", ") address list ++ rest)) ≡ number a ∷ (more_addresses list ++ lex rest)
+lex_addresses a list rest small all ends =
+    lex_address a (separated (codes ", ") address list ++ rest) small (addresses_break list rest ends) ∙ then _ _ _ (lex_more_addresses list rest all ends)
+
+-- call strings
+abbrev within_tokens : List ℕ → List Token
+within_tokens [] = []
+within_tokens (a ∷ list) = word keyword.In ∷ number a ∷ more_addresses list
+
+within_breaks : (within rest : List ℕ) → Breaks rest → Breaks (within_text within ++ rest)
+within_breaks [] rest ends = ends
+within_breaks (a ∷ list) rest ends = before_blank _
+
+lex_within : (within rest : List ℕ) → AllByRecursion IsSmall within → Breaks rest → lex (within_text within ++ rest) ≡ within_tokens within ++ lex rest
+lex_within [] rest small ends = refl
+lex_within (a ∷ list) rest (small, all) ends =
+    ap lex (within_cells (address a) (separated (codes ", ") address list) rest)
+    ∙ lex_space (codes "in " ++ (address a ++ (separated (codes ", ") address list ++ rest)))
+    ∙ lex_in (address a ++ (separated (codes ", ") address list ++ rest))
+    ∙ then _ _ _ (lex_addresses a list rest small all ends)
+  where
+    within_cells : (first others more : List ℕ) → (codes " in " ++ (first ++ others)) ++ more ≡ 32 ∷ (codes "in " ++ (first ++ (others ++ more)))
+    within_cells first others more = simp append_assoc
+
+within_is : (names : Names) (within : List ℕ) → IsWithin names (within_tokens within) within
+within_is names [] = refl
+within_is names (a ∷ list) = (number a ∷ more_addresses list, refl, addresses_are names a list)
 
 -- sums
-abbrev visits_tokens : Bool → ℕ → ℕ → List Token
-visits_tokens true times at = mark sign.Open ∷ number at ∷ mark sign.Close ∷ []
-visits_tokens false times at = number times ∷ mark sign.Star ∷ mark sign.Open ∷ number at ∷ mark sign.Close ∷ []
+abbrev visits_tokens : Bool → ℕ → ℕ → List ℕ → List Token
+visits_tokens true times at within = bracketed (number at ∷ []) (within_tokens within)
+visits_tokens false times at within = number times ∷ mark sign.Star ∷ bracketed (number at ∷ []) (within_tokens within)
 
 abbrev term_tokens : Term → List Token
 term_tokens (Constant n) = number n ∷ []
-term_tokens (Visits times at) = visits_tokens (times == 1) times at
+term_tokens (Visits times at within) = visits_tokens (times == 1) times at within
 
 abbrev more_terms : List Term → List Token
 more_terms [] = []
 more_terms (t ∷ ts) = mark sign.Plus ∷ (term_tokens t ++ more_terms ts)
 
-lex_visited : (at : ℕ) (rest : List ℕ) → IsSmall at → lex (91 ∷ (address at ++ 93 ∷ rest)) ≡ mark sign.Open ∷ number at ∷ mark sign.Close ∷ lex rest
-lex_visited at rest small =
-    lex_open (address at ++ 93 ∷ rest) ∙ then _ _ _ (lex_address at (93 ∷ rest) small (breaks 93 rest refl refl refl) ∙ then _ _ _ (lex_close rest))
+lex_visited : (at : ℕ) (within rest : List ℕ) → IsSmall at → AllByRecursion IsSmall within
+    → lex (((codes "[" ++ address at) ++ (within_text within ++ codes "]")) ++ rest) ≡ bracketed (number at ∷ []) (within_tokens within) ++ lex rest
+lex_visited at within rest small all =
+    let close = within_text within ++ 93 ∷ rest in
+    let breaks_here = within_breaks within (93 ∷ rest) (breaks 93 rest refl refl refl) in
+    ap lex (visited_cells (address at) (within_text within) rest)
+    ∙ lex_open (address at ++ close)
+    ∙ then _ _ _ (lex_address at close small breaks_here
+    ∙ then _ _ _ (lex_within within (93 ∷ rest) all (breaks 93 rest refl refl refl) ∙ ap (λ (ts : List Token). within_tokens within ++ ts) (lex_close rest)))
+    ∙ tokens (within_tokens within) (lex rest)
+  where
+    visited_cells : (first others more : List ℕ) → ((codes "[" ++ first) ++ (others ++ codes "]")) ++ more ≡ 91 ∷ (first ++ (others ++ 93 ∷ more))
+    visited_cells first others more = simp append_assoc
 
-lex_visits : (once : Bool) (times at : ℕ) (rest : List ℕ) → IsSmall times → IsSmall at
-    → lex (cond once (codes "[" ++ address at ++ codes "]") (decimal times ++ (codes " * [" ++ address at ++ codes "]")) ++ rest) ≡ visits_tokens once times at ++ lex rest
-lex_visits true times at rest times_small small = lex_visited at rest small
-lex_visits false times at rest times_small small =
-    ap lex (append_assoc (decimal times) (codes " * [" ++ address at ++ codes "]") rest)
-    ∙ lex_decimal times (32 ∷ 42 ∷ 32 ∷ 91 ∷ (address at ++ 93 ∷ rest)) times_small (before_blank _)
-    ∙ then _ _ _ (lex_space (42 ∷ 32 ∷ 91 ∷ (address at ++ 93 ∷ rest)) ∙ lex_star (32 ∷ 91 ∷ (address at ++ 93 ∷ rest)) ∙ then _ _ _ (lex_space (91 ∷ (address at ++ 93 ∷ rest)) ∙ lex_visited at rest small))
+    tokens : (us vs : List Token) → mark sign.Open ∷ number at ∷ (us ++ mark sign.Close ∷ vs) ≡ bracketed (number at ∷ []) us ++ vs
+    tokens us vs = simp append_assoc
+
+lex_visits : (once : Bool) (times at : ℕ) (within rest : List ℕ) → IsSmall times → IsSmall at → AllByRecursion IsSmall within
+    → lex ((cond once [] (decimal times ++ codes " * ") ++ ((codes "[" ++ address at) ++ (within_text within ++ codes "]"))) ++ rest) ≡ visits_tokens once times at within ++ lex rest
+lex_visits true times at within rest times_small small all = lex_visited at within rest small all
+lex_visits false times at within rest times_small small all =
+    let visited = (codes "[" ++ address at) ++ (within_text within ++ codes "]") in
+    ap lex (times_cells (decimal times) visited rest)
+    ∙ lex_decimal times (32 ∷ 42 ∷ 32 ∷ (visited ++ rest)) times_small (before_blank _)
+    ∙ then _ _ _ (lex_space (42 ∷ 32 ∷ (visited ++ rest)) ∙ lex_star (32 ∷ (visited ++ rest)) ∙ then _ _ _ (lex_space (visited ++ rest) ∙ lex_visited at within rest small all))
+  where
+    times_cells : (digits text more : List ℕ) → ((digits ++ codes " * ") ++ text) ++ more ≡ digits ++ (32 ∷ 42 ∷ 32 ∷ (text ++ more))
+    times_cells digits text more = simp append_assoc
 
 lex_term : (t : Term) (rest : List ℕ) → IsStatedTerm t → Breaks rest → lex (term_text t ++ rest) ≡ term_tokens t ++ lex rest
 lex_term (Constant n) rest small ends = lex_decimal n rest small ends
-lex_term (Visits times at) rest small ends = lex_visits (times == 1) times at rest small.0 small.1
+lex_term (Visits times at within) rest small ends = lex_visits (times == 1) times at within rest small.0 small.1 small.2
 
 terms_break : (ts : List Term) (rest : List ℕ) → Breaks rest → Breaks (separated (codes " + ") term_text ts ++ rest)
 terms_break [] rest ends = ends
@@ -124,13 +164,13 @@ lex_sum t (u ∷ ts) rest small all ends =
 times_once : (times : ℕ) (same : Bool) → (times == 1) ≡ same → same ≡ true → times ≡ 1
 times_once times same is yes_same = grind (arith, nat_tests)
 
-visits_are : (names : Names) (times at : ℕ) (once : Bool) → (times == 1) ≡ once → IsTerm names (visits_tokens once times at) (Visits times at)
-visits_are names times at true is = (number at ∷ [], plain refl, inl (times_once times true is refl, refl))
-visits_are names times at false is = (number at ∷ [], plain refl, inr refl)
+visits_are : (names : Names) (times at : ℕ) (within : List ℕ) (once : Bool) → (times == 1) ≡ once → IsTerm names (visits_tokens once times at within) (Visits times at within)
+visits_are names times at within true is = (number at ∷ [], within_tokens within, plain refl, within_is names within, inl (times_once times true is refl, refl))
+visits_are names times at within false is = (number at ∷ [], within_tokens within, plain refl, within_is names within, inr refl)
 
 term_is : (names : Names) (t : Term) → IsTerm names (term_tokens t) t
 term_is names (Constant n) = refl
-term_is names (Visits times at) = visits_are names times at (times == 1) refl
+term_is names (Visits times at within) = visits_are names times at within (times == 1) refl
 
 sum_is : (names : Names) (t : Term) (ts : List Term) → IsSum names (term_tokens t ++ more_terms ts) (t ∷ ts)
 sum_is names t [] = subst (λ (us : List Token). IsTerm names us t) (sym (append-nil (term_tokens t))) (term_is names t)
@@ -140,30 +180,51 @@ sum_is names t (u ∷ ts) = (term_tokens t, term_tokens u ++ more_terms ts, refl
 whole : (names : Names) (fact : Fact) (us : List Token) → lex (fact_text fact) ≡ us ++ text_end ∷ [] → IsFact names us fact → IsWhole one names (lex (fact_text fact)) (fact ∷ [])
 whole names fact us same is = ((us, text_end ∷ [], same, is, refl), refl)
 
-pub printed_whole : (names : Names) (fact : Fact) → IsStated fact → IsWhole one names (lex (fact_text fact)) (fact ∷ [])
-printed_whole names (Loop at b) (small, bound) =
-    whole names (Loop at b) (word keyword.Loop ∷ number at ∷ bound_token b ∷ mark sign.Semicolon ∷ [])
-    (lex_loop (address at ++ (32 ∷ (bound_text b ++ 59 ∷ [])))
-    ∙ then _ _ _ (lex_address at (32 ∷ (bound_text b ++ 59 ∷ [])) small (before_blank _) ∙ then _ _ _ (lex_space (bound_text b ++ 59 ∷ []) ∙ lex_bound b bound)))
-    (number at ∷ [], bound_token b, refl, plain refl, bounds b)
+-- the tokens of a fact on an indirect jump or call
+abbrev branching_tokens : Word → ℕ → ℕ → List ℕ → List Token
+branching_tokens w at a list = word w ∷ number at ∷ word keyword.To ∷ number a ∷ (more_addresses list ++ mark sign.Semicolon ∷ [])
+
+lex_branching : (head : List ℕ) (w : Word) → ((rest : List ℕ) → lex (head ++ rest) ≡ word w ∷ lex rest) → (at a : ℕ) (list : List ℕ) → IsSmall at → IsSmall a → AllByRecursion IsSmall list
+    → lex (branching_text head at (a ∷ list)) ≡ branching_tokens w at a list ++ text_end ∷ []
+lex_branching head w reads at a list small first all =
+    let rest = address a ++ (separated (codes ", ") address list ++ 59 ∷ []) in
+    ap lex (branching_cells head (address at) (address a) (separated (codes ", ") address list))
+    ∙ reads (address at ++ (32 ∷ (codes "to " ++ rest)))
+    ∙ then _ _ _ (lex_address at (32 ∷ (codes "to " ++ rest)) small (before_blank _)
+    ∙ then _ _ _ (lex_space (codes "to " ++ rest) ∙ lex_to rest
+    ∙ then _ _ _ (lex_addresses a list (59 ∷ []) first all (before_end []) ∙ then _ _ _ (ap (λ (ts : List Token). more_addresses list ++ ts) the_end ∙ sym (append_assoc (more_addresses list) (mark sign.Semicolon ∷ []) (text_end ∷ []))))))
   where
-    bounds : (o : Option ℕ) → IsBound (bound_token o) o
-    bounds None = refl
-    bounds (Some n) = refl
+    branching_cells : (word_text from first_to others : List ℕ) → (word_text ++ (from ++ codes " to ")) ++ ((first_to ++ others) ++ codes ";") ≡ word_text ++ (from ++ (32 ∷ (codes "to " ++ (first_to ++ (others ++ 59 ∷ [])))))
+    branching_cells word_text from first_to others = simp append_assoc
+
+branching_is : (names : Names) (w : Word) (at a : ℕ) (list : List ℕ) → IsBranching names w (branching_tokens w at a list) at (a ∷ list)
+branching_is names w at a list = (number at ∷ [], number a ∷ more_addresses list, refl, plain refl, addresses_are names a list)
+
+lex_loop_fact : (at : ℕ) (b : Option ℕ) (within : List ℕ) → IsStated (Loop at b within)
+    → lex (fact_text (Loop at b within)) ≡ (word keyword.Loop ∷ number at ∷ bound_token b ∷ (within_tokens within ++ mark sign.Semicolon ∷ [])) ++ text_end ∷ []
+lex_loop_fact at b within (small, bound, all) =
+    let rest = within_text within ++ 59 ∷ [] in
+    ap lex (loop_cells (address at) (bound_text b) (within_text within))
+    ∙ lex_loop (address at ++ (32 ∷ (bound_text b ++ rest)))
+    ∙ then _ _ _ (lex_address at (32 ∷ (bound_text b ++ rest)) small (before_blank _)
+    ∙ then _ _ _ (lex_space (bound_text b ++ rest) ∙ lex_bound b rest bound (within_breaks within (59 ∷ []) (before_end []))
+    ∙ then _ _ _ (lex_within within (59 ∷ []) all (before_end []) ∙ ap (λ (ts : List Token). within_tokens within ++ ts) the_end ∙ sym (append_assoc (within_tokens within) (mark sign.Semicolon ∷ []) (text_end ∷ [])))))
+  where
+    loop_cells : (from most others : List ℕ) → (codes "loop " ++ from ++ codes " " ++ most) ++ (others ++ codes ";") ≡ codes "loop " ++ (from ++ (32 ∷ (most ++ (others ++ 59 ∷ []))))
+    loop_cells from most others = simp append_assoc
+
+pub printed_whole : (names : Names) (fact : Fact) → IsStated fact → IsWhole one names (lex (fact_text fact)) (fact ∷ [])
+printed_whole names (Loop at b within) stated =
+    whole names (Loop at b within) (word keyword.Loop ∷ number at ∷ bound_token b ∷ (within_tokens within ++ mark sign.Semicolon ∷ [])) (lex_loop_fact at b within stated)
+    (number at ∷ [], bound_token b, within_tokens within, refl, plain refl, bound_is b, within_is names within)
 printed_whole names (Multibranch at []) (small, none, all) = absurd none
-printed_whole names (Multibranch at (a ∷ to)) (small, some, all) =
-    whole names (Multibranch at (a ∷ to)) (word keyword.Multibranch ∷ number at ∷ word keyword.To ∷ number a ∷ (more_targets to ++ mark sign.Semicolon ∷ []))
-    (lex_multibranch (address at ++ (32 ∷ 116 ∷ 111 ∷ 32 ∷ (address a ++ (separated (codes ", ") address to ++ 59 ∷ []))))
-    ∙ then _ _ _ (lex_branching at a to small all.0 all.1)
-    ∙ ap (λ (ts : List Token). word keyword.Multibranch ∷ number at ∷ word keyword.To ∷ number a ∷ ts) (sym (append_assoc (more_targets to) (mark sign.Semicolon ∷ []) (text_end ∷ []))))
-    (number at ∷ [], number a ∷ more_targets to, refl, plain refl, targets_are names a to)
+printed_whole names (Multibranch at (a ∷ list)) (small, some, all) =
+    whole names (Multibranch at (a ∷ list)) (branching_tokens keyword.Multibranch at a list)
+    (lex_branching (codes "multibranch ") keyword.Multibranch lex_multibranch at a list small all.0 all.1) (branching_is names keyword.Multibranch at a list)
 printed_whole names (Multicall at []) (small, none, all) = absurd none
-printed_whole names (Multicall at (a ∷ to)) (small, some, all) =
-    whole names (Multicall at (a ∷ to)) (word keyword.Multicall ∷ number at ∷ word keyword.To ∷ number a ∷ (more_targets to ++ mark sign.Semicolon ∷ []))
-    (lex_multicall (address at ++ (32 ∷ 116 ∷ 111 ∷ 32 ∷ (address a ++ (separated (codes ", ") address to ++ 59 ∷ []))))
-    ∙ then _ _ _ (lex_branching at a to small all.0 all.1)
-    ∙ ap (λ (ts : List Token). word keyword.Multicall ∷ number at ∷ word keyword.To ∷ number a ∷ ts) (sym (append_assoc (more_targets to) (mark sign.Semicolon ∷ []) (text_end ∷ []))))
-    (number at ∷ [], number a ∷ more_targets to, refl, plain refl, targets_are names a to)
+printed_whole names (Multicall at (a ∷ list)) (small, some, all) =
+    whole names (Multicall at (a ∷ list)) (branching_tokens keyword.Multicall at a list)
+    (lex_branching (codes "multicall ") keyword.Multicall lex_multicall at a list small all.0 all.1) (branching_is names keyword.Multicall at a list)
 printed_whole names (Noreturn at) small =
     whole names (Noreturn at) (word keyword.Noreturn ∷ number at ∷ mark sign.Semicolon ∷ [])
     (lex_noreturn (address at ++ 59 ∷ []) ∙ then _ _ _ (lex_address at (59 ∷ []) small (before_end []) ∙ then _ _ _ the_end))

@@ -122,6 +122,10 @@ pub lex_to : (rest : List ℕ) → lex (codes "to " ++ rest) ≡ word keyword.To
 unfolding piece_at run_length
 lex_to rest = lex_word 116 _ rest (word keyword.To) 2 refl (omega arith, omega arith) refl
 
+pub lex_in : (rest : List ℕ) → lex (codes "in " ++ rest) ≡ word keyword.In ∷ lex rest
+unfolding piece_at run_length
+lex_in rest = lex_word 105 _ rest (word keyword.In) 2 refl (omega arith, omega arith) refl
+
 -- runs of bytes of a kind, before another byte
 run_over : (k : Kind) (ds rest : List ℕ) → AllByRecursion (λ b. is_of k b ≡ true) ds → run_length k rest ≡ 0 → run_length k (ds ++ rest) ≡ length ds
 unfolding run_length

@@ -2,6 +2,7 @@
 use Rattle.std.proofs.Common.{◌≡◌, ℕ, zero, suc, ◌+◌, ◌-◌, ◌<◌, ◌^◌, Bool, true, false, ◌&&◌, ◌==◌, cond, nat_lt, List, [], ◌∷◌, ◌++◌, take, drop, Option, None, Some, refl, subst, arith, inl, inr}
 use Rattle.std.proofs.lemmas.Bool.Decides.{nat_tests}
 use Rattle.std.specs.List.{AllByRecursion}
+use Rattle.std.specs.Prelude.{IfSome}
 use Rattle.wc_model.specs.declared.flow_facts.Fact.{Fact}
 use Rattle.wc_model.specs.declared.flow_facts.Fact.TheVariants.{Loop, Multibranch, Multicall, Noreturn, Checksum, Limit}
 use Rattle.wc_model.specs.declared.flow_facts.Term.{Term}
@@ -10,9 +11,10 @@ use Rattle.wc_f4.specs.declared.runs.Kind.{Kind}
 use Rattle.wc_f4.specs.declared.runs.Kind.TheVariants as kind
 use Rattle.wc_f4.specs.declared.tokens.Mark.{Mark}
 use Rattle.wc_f4.specs.declared.tokens.Mark.TheVariants as sign
+use Rattle.wc_f4.specs.declared.tokens.Word.{Word}
 use Rattle.wc_f4.specs.declared.tokens.Word.TheVariants as keyword
 use Rattle.wc_f4.specs.Bytes.{closing_length, has_at, is_blank, is_digit, is_letter, is_of, is_quoted, run_length, value_from}
-use Rattle.wc_f4.specs.Grammar.{Names, IsAddress, plain, named, above, below, AreTargets, IsFact, IsSum, IsTerm, IsText}
+use Rattle.wc_f4.specs.Grammar.{Names, IsAddress, plain, named, above, below, AreAddresses, IsBranching, IsFact, IsSum, IsTerm, IsText, IsWithin, IsBound, bracketed}
 use Rattle.wc_f4.specs.Stated.{IsFilled, IsSmall, IsStated, IsStatedTerm}
 use Rattle.wc_f4.specs.Tokens.{Token, Piece, Placed, closed_comment, mark_of, number_of, piece_at, tokens_from, tokens_of, with_token, word, number, quoted, mark, wrong}
 use Rattle.wc_f4.proofs.GrammarLemmas.{Bounded}
@@ -101,21 +103,33 @@ module _ (names : Names) (bounded : Bounded names) where
   address_small us at (above s base n is stands sum fits) all = fits
   address_small us at (below s base n is stands sum) all = let small : base < 2 ^ 32 = bounded s base stands in omega (arith, small, sum)
 
-  targets_small : (ws : List Token) (targets : List ℕ) → AreTargets names ws targets → AreSound ws → IsFilled targets × AllByRecursion IsSmall targets
-  targets_small ws [] are all = absurd are
-  targets_small ws (a ∷ []) is all = (tt, (address_small ws a is all, tt))
-  targets_small ws (a ∷ b ∷ targets) (us, vs, same, is, are) all =
+  addresses_small : (ws : List Token) (list : List ℕ) → AreAddresses names ws list → AreSound ws → IsFilled list × AllByRecursion IsSmall list
+  addresses_small ws [] are all = absurd are
+  addresses_small ws (a ∷ []) is all = (tt, (address_small ws a is all, tt))
+  addresses_small ws (a ∷ b ∷ list) (us, vs, same, is, are) all =
       let sound : AreSound (us ++ (mark sign.Comma ∷ vs)) = subst AreSound same all in
-      (tt, (address_small us a is (front_sound us (mark sign.Comma ∷ vs) sound), (targets_small vs (b ∷ targets) are (back_sound us (mark sign.Comma ∷ vs) sound).1).1))
+      (tt, (address_small us a is (front_sound us (mark sign.Comma ∷ vs) sound), (addresses_small vs (b ∷ list) are (back_sound us (mark sign.Comma ∷ vs) sound).1).1))
+
+  within_small : (ws : List Token) (within : List ℕ) → IsWithin names ws within → AreSound ws → AllByRecursion IsSmall within
+  within_small ws [] none all = tt
+  within_small ws (a ∷ more) (us, same, are) all =
+      let sound : AreSound (word keyword.In ∷ us) = subst AreSound same all in
+      (addresses_small us (a ∷ more) are sound.1).1
+
+  visits_small : (us vs : List Token) (at : ℕ) (within : List ℕ) → IsAddress names us at → IsWithin names vs within → AreSound (bracketed us vs) → IsSmall at × AllByRecursion IsSmall within
+  visits_small us vs at within is are (open_sound, sound) = (
+    address_small us at is (front_sound us (vs ++ mark sign.Close ∷ []) sound),
+    within_small vs within are (front_sound vs (mark sign.Close ∷ []) (back_sound us (vs ++ mark sign.Close ∷ []) sound)),
+  )
 
   term_stated : (ts : List Token) (t : Term) → IsTerm names ts t → AreSound ts → IsStatedTerm t
   term_stated ts (Constant n) is all = let sound : AreSound (number n ∷ []) = subst AreSound is all in sound.0
-  term_stated ts (Visits times at) (us, is, inl (once, same)) all =
-      let sound : AreSound (mark sign.Open ∷ us ++ mark sign.Close ∷ []) = subst AreSound same all in
-      (omega (arith, once), address_small us at is (front_sound us (mark sign.Close ∷ []) sound.1))
-  term_stated ts (Visits times at) (us, is, inr same) all =
-      let sound : AreSound (number times ∷ mark sign.Star ∷ mark sign.Open ∷ us ++ mark sign.Close ∷ []) = subst AreSound same all in
-      (sound.0, address_small us at is (front_sound us (mark sign.Close ∷ []) sound.1.1.1))
+  term_stated ts (Visits times at within) (us, vs, is, are, inl (once, same)) all =
+      let sound : AreSound (bracketed us vs) = subst AreSound same all in
+      let small = visits_small us vs at within is are sound in (omega (arith, once), small.0, small.1)
+  term_stated ts (Visits times at within) (us, vs, is, are, inr same) all =
+      let sound : AreSound (number times ∷ mark sign.Star ∷ bracketed us vs) = subst AreSound same all in
+      let small = visits_small us vs at within is are sound.1.1 in (sound.0, small.0, small.1)
 
   sum_stated : (ws : List Token) (terms : List Term) → IsSum names ws terms → AreSound ws → IsFilled terms × AllByRecursion IsStatedTerm terms
   sum_stated ws [] are all = absurd are
@@ -124,25 +138,26 @@ module _ (names : Names) (bounded : Bounded names) where
       let sound : AreSound (us ++ (mark sign.Plus ∷ vs)) = subst AreSound same all in
       (tt, (term_stated us t is (front_sound us (mark sign.Plus ∷ vs) sound), (sum_stated vs (u ∷ terms) are (back_sound us (mark sign.Plus ∷ vs) sound).1).1))
 
-  branching_stated : (us vs : List Token) (at : ℕ) (targets : List ℕ) → IsAddress names us at → AreTargets names vs targets → AreSound (us ++ (word keyword.To ∷ vs ++ mark sign.Semicolon ∷ []))
-      → IsSmall at × IsFilled targets × AllByRecursion IsSmall targets
-  branching_stated us vs at targets is are sound =
-      let small = targets_small vs targets are (front_sound vs (mark sign.Semicolon ∷ []) (back_sound us (word keyword.To ∷ vs ++ mark sign.Semicolon ∷ []) sound).1) in
-      (address_small us at is (front_sound us (word keyword.To ∷ vs ++ mark sign.Semicolon ∷ []) sound), small.0, small.1)
+  branching_stated : (w : Word) (ts : List Token) (at : ℕ) (list : List ℕ) → IsBranching names w ts at list → AreSound ts → IsSmall at × IsFilled list × AllByRecursion IsSmall list
+  branching_stated w ts at list (us, vs, same, is, are) all =
+      let sound : AreSound (word w ∷ us ++ (word keyword.To ∷ vs ++ mark sign.Semicolon ∷ [])) = subst AreSound same all in
+      let small = addresses_small vs list are (front_sound vs (mark sign.Semicolon ∷ []) (back_sound us (word keyword.To ∷ vs ++ mark sign.Semicolon ∷ []) sound.1).1) in
+      (address_small us at is (front_sound us (word keyword.To ∷ vs ++ mark sign.Semicolon ∷ []) sound.1), small.0, small.1)
+
+  bound_small : (t : Token) (b : Option ℕ) → IsBound t b → IsSound t → IfSome b IsSmall
+  bound_small t None is sound = tt
+  bound_small t (Some n) is sound = subst IsSound is sound
 
   fact_stated : (ts : List Token) (f : Fact) → IsFact names ts f → AreSound ts → IsStated f
-  fact_stated ts (Loop at None) (us, t, same, is, bounds) all =
-      let sound : AreSound (word keyword.Loop ∷ us ++ t ∷ mark sign.Semicolon ∷ []) = subst AreSound same all in
-      (address_small us at is (front_sound us (t ∷ mark sign.Semicolon ∷ []) sound.1), tt)
-  fact_stated ts (Loop at (Some n)) (us, t, same, is, bounds) all =
-      let sound : AreSound (word keyword.Loop ∷ us ++ t ∷ mark sign.Semicolon ∷ []) = subst AreSound same all in
-      (address_small us at is (front_sound us (t ∷ mark sign.Semicolon ∷ []) sound.1), subst IsSound bounds (back_sound us (t ∷ mark sign.Semicolon ∷ []) sound.1).0)
-  fact_stated ts (Multibranch at targets) (us, vs, same, is, are) all =
-      let sound : AreSound (word keyword.Multibranch ∷ us ++ (word keyword.To ∷ vs ++ mark sign.Semicolon ∷ [])) = subst AreSound same all in
-      branching_stated us vs at targets is are sound.1
-  fact_stated ts (Multicall at targets) (us, vs, same, is, are) all =
-      let sound : AreSound (word keyword.Multicall ∷ us ++ (word keyword.To ∷ vs ++ mark sign.Semicolon ∷ [])) = subst AreSound same all in
-      branching_stated us vs at targets is are sound.1
+  fact_stated ts (Loop at b within) (us, t, vs, same, is, bounds, are) all =
+      let sound : AreSound (word keyword.Loop ∷ us ++ (t ∷ (vs ++ mark sign.Semicolon ∷ []))) = subst AreSound same all in
+      let rest = back_sound us (t ∷ (vs ++ mark sign.Semicolon ∷ [])) sound.1 in (
+        address_small us at is (front_sound us (t ∷ (vs ++ mark sign.Semicolon ∷ [])) sound.1),
+        bound_small t b bounds rest.0,
+        within_small vs within are (front_sound vs (mark sign.Semicolon ∷ []) rest.1),
+      )
+  fact_stated ts (Multibranch at list) is all = branching_stated keyword.Multibranch ts at list is all
+  fact_stated ts (Multicall at list) is all = branching_stated keyword.Multicall ts at list is all
   fact_stated ts (Noreturn at) (us, same, is) all =
       let sound : AreSound (word keyword.Noreturn ∷ us ++ mark sign.Semicolon ∷ []) = subst AreSound same all in
       address_small us at is (front_sound us (mark sign.Semicolon ∷ []) sound.1)

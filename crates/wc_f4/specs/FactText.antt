@@ -19,30 +19,37 @@ abbrev pub bound_text : Option ℕ → List ℕ
 bound_text None = codes "?"
 bound_text (Some n) = decimal n
 
-abbrev pub targets_text : List ℕ → List ℕ
-targets_text to = between (codes ", ") address to
+abbrev pub addresses_text : List ℕ → List ℕ
+addresses_text addresses = between (codes ", ") address addresses
+
+abbrev pub within_text : List ℕ → List ℕ
+within_text [] = []
+within_text (at ∷ more) = codes " in " ++ addresses_text (at ∷ more)
 
 -- once is written without its number
-abbrev pub visits_text : ℕ → ℕ → List ℕ
-visits_text times at = if times == 1 then codes "[" ++ address at ++ codes "]" else decimal times ++ (codes " * [" ++ address at ++ codes "]")
+abbrev pub times_text : ℕ → List ℕ
+times_text times = if times == 1 then [] else decimal times ++ codes " * "
 
 abbrev pub term_text : Term → List ℕ
 term_text (Constant n) = decimal n
-term_text (Visits times at) = visits_text times at
+term_text (Visits times at within) = times_text times ++ ((codes "[" ++ address at) ++ (within_text within ++ codes "]"))
 
 abbrev pub sum_text : List Term → List ℕ
 sum_text terms = between (codes " + ") term_text terms
 
-abbrev pub loop_text : ℕ → Option ℕ → List ℕ
-loop_text at bound = codes "loop " ++ address at ++ codes " " ++ bound_text bound ++ codes ";"
+abbrev pub loop_text : ℕ → Option ℕ → List ℕ → List ℕ
+loop_text at bound within = (codes "loop " ++ address at ++ codes " " ++ bound_text bound) ++ (within_text within ++ codes ";")
+
+abbrev pub branching_text : List ℕ → ℕ → List ℕ → List ℕ
+branching_text word at to = (word ++ (address at ++ codes " to ")) ++ (addresses_text to ++ codes ";")
 
 abbrev pub limit_text : List Term → List Term → List ℕ
 limit_text left right = (codes "limit " ++ sum_text left) ++ ((codes " <= " ++ sum_text right) ++ codes ";")
 
 abbrev pub fact_text : Fact → List ℕ
-fact_text (Loop at bound) = loop_text at bound
-fact_text (Multibranch at to) = codes "multibranch " ++ address at ++ codes " to " ++ targets_text to ++ codes ";"
-fact_text (Multicall at to) = codes "multicall " ++ address at ++ codes " to " ++ targets_text to ++ codes ";"
+fact_text (Loop at bound within) = loop_text at bound within
+fact_text (Multibranch at to) = branching_text (codes "multibranch ") at to
+fact_text (Multicall at to) = branching_text (codes "multicall ") at to
 fact_text (Noreturn at) = codes "noreturn " ++ address at ++ codes ";"
 fact_text (Checksum name value) = codes "checksum \"" ++ name ++ codes "\" " ++ decimal value ++ codes ";"
 fact_text (Limit left right) = limit_text left right

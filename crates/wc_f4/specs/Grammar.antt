@@ -5,6 +5,7 @@ use Rattle.wc_model.specs.declared.flow_facts.Fact.TheVariants.{Loop, Multibranc
 use Rattle.wc_model.specs.declared.flow_facts.Term.{Term}
 use Rattle.wc_model.specs.declared.flow_facts.Term.TheVariants.{Constant, Visits}
 use Rattle.wc_f4.specs.declared.tokens.Mark.TheVariants as sign
+use Rattle.wc_f4.specs.declared.tokens.Word.{Word}
 use Rattle.wc_f4.specs.declared.tokens.Word.TheVariants as keyword
 use Rattle.wc_f4.specs.Tokens.{Token, word, number, quoted, mark, text_end}
 
@@ -30,28 +31,42 @@ abbrev pub IsBound : Token → Option ℕ → Type 0
 IsBound t None = t ≡ mark sign.Question
 IsBound t (Some n) = t ≡ number n
 
--- number | "[" addr "]" | number "*" "[" addr "]"
+-- addr { "," addr }
+abbrev pub AreAddresses : Names → List Token → List ℕ → Type 0
+AreAddresses names ts addresses = AreJoined (IsAddress names) (mark sign.Comma) ts addresses
+
+-- [ "in" addr { "," addr } ]: without it there is no address
+abbrev pub IsWithin : Names → List Token → List ℕ → Type 0
+IsWithin names ts [] = ts ≡ []
+IsWithin names ts (at ∷ more) = (us : List Token) × (ts ≡ word keyword.In ∷ us) × AreAddresses names us (at ∷ more)
+
+-- "[" addr [ within ] "]"
+abbrev pub bracketed : List Token → List Token → List Token
+bracketed us vs = mark sign.Open ∷ us ++ (vs ++ mark sign.Close ∷ [])
+
+-- number | "[" addr [ within ] "]" | number "*" "[" addr [ within ] "]"
 abbrev pub IsTerm : Names → List Token → Term → Type 0
 IsTerm names ts (Constant n) = ts ≡ number n ∷ []
-IsTerm names ts (Visits times at) =
-    (us : List Token) × IsAddress names us at
-    × (((times ≡ 1) × (ts ≡ mark sign.Open ∷ us ++ mark sign.Close ∷ [])) ⊎ (ts ≡ number times ∷ mark sign.Star ∷ mark sign.Open ∷ us ++ mark sign.Close ∷ []))
-
--- addr { "," addr }
-abbrev pub AreTargets : Names → List Token → List ℕ → Type 0
-AreTargets names ts to = AreJoined (IsAddress names) (mark sign.Comma) ts to
+IsTerm names ts (Visits times at within) =
+    (us : List Token) × (vs : List Token) × IsAddress names us at × IsWithin names vs within
+    × (((times ≡ 1) × (ts ≡ bracketed us vs)) ⊎ (ts ≡ number times ∷ mark sign.Star ∷ bracketed us vs))
 
 -- term { "+" term }
 abbrev pub IsSum : Names → List Token → List Term → Type 0
 IsSum names ts terms = AreJoined (IsTerm names) (mark sign.Plus) ts terms
 
+-- addr "to" addr { "," addr } ";", behind the fact's word
+abbrev pub IsBranching : Names → Word → List Token → ℕ → List ℕ → Type 0
+IsBranching names w ts at to =
+    (us : List Token) × (vs : List Token) × (ts ≡ word w ∷ us ++ (word keyword.To ∷ vs ++ mark sign.Semicolon ∷ []))
+    × IsAddress names us at × AreAddresses names vs to
+
 abbrev pub IsFact : Names → List Token → Fact → Type 0
-IsFact names ts (Loop at bound) =
-    (us : List Token) × (t : Token) × (ts ≡ word keyword.Loop ∷ us ++ t ∷ mark sign.Semicolon ∷ []) × IsAddress names us at × IsBound t bound
-IsFact names ts (Multibranch at to) =
-    (us : List Token) × (vs : List Token) × (ts ≡ word keyword.Multibranch ∷ us ++ (word keyword.To ∷ vs ++ mark sign.Semicolon ∷ [])) × IsAddress names us at × AreTargets names vs to
-IsFact names ts (Multicall at to) =
-    (us : List Token) × (vs : List Token) × (ts ≡ word keyword.Multicall ∷ us ++ (word keyword.To ∷ vs ++ mark sign.Semicolon ∷ [])) × IsAddress names us at × AreTargets names vs to
+IsFact names ts (Loop at bound within) =
+    (us : List Token) × (t : Token) × (vs : List Token) × (ts ≡ word keyword.Loop ∷ us ++ (t ∷ (vs ++ mark sign.Semicolon ∷ [])))
+    × IsAddress names us at × IsBound t bound × IsWithin names vs within
+IsFact names ts (Multibranch at to) = IsBranching names keyword.Multibranch ts at to
+IsFact names ts (Multicall at to) = IsBranching names keyword.Multicall ts at to
 IsFact names ts (Noreturn at) =
     (us : List Token) × (ts ≡ word keyword.Noreturn ∷ us ++ mark sign.Semicolon ∷ []) × IsAddress names us at
 IsFact names ts (Checksum name value) =

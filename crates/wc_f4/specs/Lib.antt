@@ -1,6 +1,7 @@
 pub mod Bytes
 pub mod FactText
 pub mod Grammar
+pub mod NameOrder
 pub mod Places
 pub mod Reading
 pub mod Stated

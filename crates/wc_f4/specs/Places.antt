@@ -4,6 +4,8 @@ use Rattle.wc_model.specs.declared.flow_facts.Fact.{Fact}
 use Rattle.wc_model.specs.declared.flow_facts.Fact.TheVariants.{Loop, Multibranch, Multicall, Noreturn, Checksum, Limit}
 use Rattle.wc_model.specs.declared.flow_facts.Term.{Term}
 use Rattle.wc_model.specs.declared.flow_facts.Term.TheVariants.{Constant, Visits}
+use Rattle.wc_f4.specs.declared.branchings.Branching.{Branching}
+use Rattle.wc_f4.specs.declared.branchings.Branching.TheVariants.{Jump, Call}
 use Rattle.wc_f4.specs.declared.tokens.Mark.{Mark}
 use Rattle.wc_f4.specs.declared.tokens.Mark.TheVariants as sign
 use Rattle.wc_f4.specs.declared.tokens.Word.{Word}
@@ -13,14 +15,9 @@ use Rattle.wc_f4.specs.declared.stops.Stop.TheVariants.{Bad, Unknown, Memory}
 use Rattle.wc_f4.specs.Grammar.{Names}
 use Rattle.wc_f4.specs.Tokens.{Token, Placed, word, number, quoted, mark, text_end}
 
--- multibranch or multicall
-pub data Branching : Type 0 where
-  branches : Branching
-  calls : Branching
-
 abbrev pub branching_fact : Branching → ℕ → List ℕ → Fact
-branching_fact branches at to = Multibranch at to
-branching_fact calls at to = Multicall at to
+branching_fact Jump at list = Multibranch at list
+branching_fact Call at list = Multicall at list
 
 -- the sum that is being read of a limit: the left one, or the right one behind the left one
 pub data Side : Type 0 where
@@ -35,13 +32,36 @@ abbrev pub with_terms : Side → List Term → Side
 with_terms (left before) terms = left (before ++ terms)
 with_terms (right first before) terms = right first (before ++ terms)
 
+-- what a list of addresses belongs to
+pub data Owner : Type 0 where
+  targets : Branching → ℕ → Owner
+  bounded : ℕ → Option ℕ → Owner
+  counted : Side → ℕ → ℕ → Owner
+
 -- which address of a fact is being read
 pub data Part : Type 0 where
   looped : Part
   branching : Branching → Part
-  target : Branching → ℕ → List ℕ → Part
   noreturn : Part
   visited : Side → ℕ → Part
+  listed : Owner → List ℕ → Part
+
+-- what stands behind an address
+pub data Behind : Type 0 where
+  bound : ℕ → Behind
+  to : Branching → ℕ → Behind
+  -- "in", or what follows without it
+  within : Owner → Behind
+  -- ",", or what follows the list
+  after_listed : Owner → List ℕ → Behind
+  closing : Fact → Behind
+
+abbrev pub after_address : Part → ℕ → Behind
+after_address looped at = bound at
+after_address (branching kind) at = to kind at
+after_address noreturn at = closing (Noreturn at)
+after_address (visited side n) at = within (counted side n at)
+after_address (listed owner before) at = after_listed owner (before ++ at ∷ [])
 
 -- what stands next
 pub data Place : Type 0 where
@@ -58,28 +78,18 @@ pub data Place : Type 0 where
   moved : Part → ℕ → Place
   above : Part → ℕ → Place
   below : Part → ℕ → Place
-  bound : ℕ → Place
-  to : Branching → ℕ → Place
-  after_target : Branching → ℕ → List ℕ → Place
+  behind : Behind → Place
+  -- behind a list that doesn't go on
+  whole : Owner → List ℕ → Place
   name : Place
   value : List ℕ → Place
-  closing : Fact → Place
   term : Side → Place
   -- behind a number: "*", or what follows a term
   times : Side → ℕ → Place
   opening : Side → ℕ → Place
-  closing_visits : Side → ℕ → ℕ → Place
   after_term : Side → Place
   -- behind a sum that doesn't go on
   ended : Side → Place
-
--- what stands behind an address
-abbrev pub after_address : Part → ℕ → Place
-after_address looped at = bound at
-after_address (branching kind) at = to kind at
-after_address (target kind from before) at = after_target kind from (before ++ at ∷ [])
-after_address noreturn at = closing (Noreturn at)
-after_address (visited side n) at = closing_visits side n at
 
 -- what a token does at a place
 pub data Turn : Type 0 where
@@ -101,12 +111,26 @@ same_mark sign.Close sign.Close = true
 same_mark sign.AtMost sign.AtMost = true
 same_mark _ _ = false
 
-abbrev pub is_mark : Mark → Token → Bool
-is_mark m (mark k) = same_mark m k
-is_mark m _ = false
+abbrev pub same_word : Word → Word → Bool
+same_word keyword.Loop keyword.Loop = true
+same_word keyword.Multibranch keyword.Multibranch = true
+same_word keyword.Multicall keyword.Multicall = true
+same_word keyword.Noreturn keyword.Noreturn = true
+same_word keyword.Checksum keyword.Checksum = true
+same_word keyword.Limit keyword.Limit = true
+same_word keyword.To keyword.To = true
+same_word keyword.In keyword.In = true
+same_word keyword.Other keyword.Other = true
+same_word _ _ = false
 
-abbrev pub on_mark : Mark → Token → Turn → Turn → Turn
-on_mark m t does other = if is_mark m t then does else other
+-- the token is this mark, or this word
+abbrev pub is_this : Token → Token → Bool
+is_this (mark m) (mark k) = same_mark m k
+is_this (word w) (word v) = same_word w v
+is_this _ _ = false
+
+abbrev pub on_this : Token → Token → Turn → Turn → Turn
+on_this wanted t does other = if is_this wanted t then does else other
 
 abbrev pub on_number : Token → (ℕ → Turn) → Turn
 on_number (number n) does = does n
@@ -127,16 +151,12 @@ number_or _ does other = other
 
 abbrev pub begin_fact : Word → Turn
 begin_fact keyword.Loop = go (address looped)
-begin_fact keyword.Multibranch = go (address (branching branches))
-begin_fact keyword.Multicall = go (address (branching calls))
+begin_fact keyword.Multibranch = go (address (branching Jump))
+begin_fact keyword.Multicall = go (address (branching Call))
 begin_fact keyword.Noreturn = go (address noreturn)
 begin_fact keyword.Checksum = go name
 begin_fact keyword.Limit = go (term (left []))
 begin_fact _ = refused
-
-abbrev pub begin_targets : Branching → ℕ → Word → Turn
-begin_targets kind from keyword.To = go (address (target kind from []))
-begin_targets kind from _ = refused
 
 abbrev pub on_end : Token → Turn → Turn
 on_end text_end other = ends
@@ -146,70 +166,67 @@ abbrev pub named : Part → Option ℕ → Turn
 named part None = unknown
 named part (Some at) = go (moved part at)
 
+abbrev pub lands : Part → ℕ → Turn
+lands part at = go (behind (after_address part at))
+
 abbrev pub up : Part → ℕ → ℕ → Turn
-up part base n = if nat_lt (base + n) (2 ^ 32) then go (after_address part (base + n)) else refused
+up part base n = if nat_lt (base + n) (2 ^ 32) then lands part (base + n) else refused
 
 abbrev pub down : Part → ℕ → ℕ → Turn
-down part base n = if nat_le n base then go (after_address part (base - n)) else refused
+down part base n = if nat_le n base then lands part (base - n) else refused
 
 abbrev pub at_label : Names → Part → Token → Turn
 at_label names part t = on_quoted t (λ s. named part (names s))
 
-abbrev pub at_bound : ℕ → Token → Turn
-at_bound from t = on_mark sign.Question t (go (closing (Loop from None))) (on_number t (λ n. go (closing (Loop from (Some n)))))
-
 abbrev pub at_closing : Fact → Token → Turn
-at_closing fact t = on_mark sign.Semicolon t (states fact) refused
+at_closing fact t = on_this (mark sign.Semicolon) t (states fact) refused
 
-abbrev pub at_after_target : Branching → ℕ → List ℕ → Token → Turn
-at_after_target kind from before t = on_mark sign.Comma t (go (address (target kind from before))) (at_closing (branching_fact kind from before) t)
+-- what follows a list of addresses
+abbrev pub at_whole : Owner → List ℕ → Token → Turn
+at_whole (targets kind at) list t = at_closing (branching_fact kind at list) t
+at_whole (bounded at most) list t = at_closing (Loop at most list) t
+at_whole (counted side n at) list t = on_this (mark sign.Close) t (go (after_term (with_term side (Visits n at list)))) refused
+
+abbrev pub at_behind : Behind → Token → Turn
+at_behind (bound at) t = on_this (mark sign.Question) t (go (behind (within (bounded at None)))) (on_number t (λ n. go (behind (within (bounded at (Some n))))))
+at_behind (to kind at) t = on_this (word keyword.To) t (go (address (listed (targets kind at) []))) refused
+at_behind (within owner) t = on_this (word keyword.In) t (go (address (listed owner []))) (at_whole owner [] t)
+at_behind (after_listed owner before) t = on_this (mark sign.Comma) t (go (address (listed owner before))) (at_whole owner before t)
+at_behind (closing fact) t = at_closing fact t
+
+abbrev pub at_moved : Part → ℕ → Token → Turn
+at_moved part at t = on_this (mark sign.Plus) t (go (above part at)) (on_this (mark sign.Minus) t (go (below part at)) (at_behind (after_address part at) t))
 
 abbrev pub at_opening : Side → ℕ → Token → Turn
-at_opening side n t = on_mark sign.Open t (go (address (visited side n))) refused
-
-abbrev pub at_closing_visits : Side → ℕ → ℕ → Token → Turn
-at_closing_visits side n from t = on_mark sign.Close t (go (after_term (with_term side (Visits n from)))) refused
+at_opening side n t = on_this (mark sign.Open) t (go (address (visited side n))) refused
 
 -- the left sum ends at "<=", the right one at ";"
 abbrev pub at_ended : Side → Token → Turn
-at_ended (left terms) t = on_mark sign.AtMost t (go (term (right terms []))) refused
+at_ended (left terms) t = on_this (mark sign.AtMost) t (go (term (right terms []))) refused
 at_ended (right before terms) t = at_closing (Limit before terms) t
 
 abbrev pub at_after_term : Side → Token → Turn
-at_after_term side t = on_mark sign.Plus t (go (term side)) (at_ended side t)
+at_after_term side t = on_this (mark sign.Plus) t (go (term side)) (at_ended side t)
 
 abbrev pub at_times : Side → ℕ → Token → Turn
-at_times side n t = on_mark sign.Star t (go (opening side n)) (at_after_term (with_term side (Constant n)) t)
-
-abbrev pub behind_address : Part → ℕ → Token → Turn
-behind_address looped at t = at_bound at t
-behind_address (branching kind) at t = on_word t (begin_targets kind at)
-behind_address (target kind from before) at t = at_after_target kind from (before ++ at ∷ []) t
-behind_address noreturn at t = at_closing (Noreturn at) t
-behind_address (visited side n) at t = at_closing_visits side n at t
-
-abbrev pub at_moved : Part → ℕ → Token → Turn
-at_moved part at t = on_mark sign.Plus t (go (above part at)) (on_mark sign.Minus t (go (below part at)) (behind_address part at t))
+at_times side n t = on_this (mark sign.Star) t (go (opening side n)) (at_after_term (with_term side (Constant n)) t)
 
 abbrev pub turn : Names → Place → Token → Turn
 turn names start t = on_end t (on_word t begin_fact)
 turn names first t = on_word t begin_fact
 turn names finish t = on_end t refused
-turn names (address part) t = number_or t (λ n. go (after_address part n)) (at_label names part t)
+turn names (address part) t = number_or t (lands part) (at_label names part t)
 turn names (label part) t = at_label names part t
 turn names (moved part at) t = at_moved part at t
 turn names (above part base) t = on_number t (up part base)
 turn names (below part base) t = on_number t (down part base)
-turn names (bound from) t = at_bound from t
-turn names (to kind from) t = on_word t (begin_targets kind from)
-turn names (after_target kind from before) t = at_after_target kind from before t
+turn names (behind next) t = at_behind next t
+turn names (whole owner addresses) t = at_whole owner addresses t
 turn names name t = on_quoted t (λ s. go (value s))
-turn names (value s) t = on_number t (λ n. go (closing (Checksum s n)))
-turn names (closing fact) t = at_closing fact t
+turn names (value s) t = on_number t (λ n. go (behind (closing (Checksum s n))))
 turn names (term side) t = number_or t (λ n. go (times side n)) (at_opening side 1 t)
 turn names (times side n) t = at_times side n t
 turn names (opening side n) t = at_opening side n t
-turn names (closing_visits side n from) t = at_closing_visits side n from t
 turn names (after_term side) t = at_after_term side t
 turn names (ended side) t = at_ended side t
 
@@ -234,15 +251,32 @@ Goes (Ok x) before after = before ≡ after x
 Goes (Err (Memory _)) before after = Unit {0}
 Goes (Err stop) before after = before ≡ Err stop
 
--- a part that stands at a place was read, and what follows stands behind it
-abbrev pub Reads : {X : Type 0} → Names → Place → (X → Place) → Result X Stop → List Placed → List Placed → Type 0
-Reads names place behind result old new =
-    (later : Place) (facts : List Fact) → Goes result (answer names later place facts old) (λ x. answer names later (behind x) facts new)
+-- A part that stands at a place was read, and what follows stands behind it: before it these names and tokens were there, and
+-- behind it those.
+abbrev pub Reads : {X : Type 0} → Place → (X → Place) → Result X Stop → Names × List Placed → Names × List Placed → Type 0
+Reads place next result old new =
+    (later : Place) (facts : List Fact) → Goes result (answer old.0 later place facts old.1) (λ x. answer new.0 later (next x) facts new.1)
 
 -- the rest of a fact was read
-abbrev pub ReadsFact : Names → Place → Result Fact Stop → List Placed → List Placed → Type 0
-ReadsFact names place result old new =
-    (later : Place) (facts : List Fact) → Goes result (answer names later place facts old) (λ fact. answer names later later (facts ++ fact ∷ []) new)
+abbrev pub ReadsFact : Place → Result Fact Stop → Names × List Placed → Names × List Placed → Type 0
+ReadsFact place result old new =
+    (later : Place) (facts : List Fact) → Goes result (answer old.0 later place facts old.1) (λ fact. answer new.0 later later (facts ++ fact ∷ []) new.1)
+
+-- the address of any fact was read
+abbrev pub ReadsAddress : (Part → Place) → Result ℕ Stop → Names × List Placed → Names × List Placed → Type 0
+ReadsAddress place result old new = (part : Part) → Reads (place part) (λ at. behind (after_address part at)) result old new
+
+-- a term of either side was read
+abbrev pub ReadsTerm : (Side → Place) → Result Term Stop → Names × List Placed → Names × List Placed → Type 0
+ReadsTerm place result old new = (side : Side) → Reads (place side) (λ t. after_term (with_term side t)) result old new
+
+-- what stands behind one address of a list
+abbrev pub after_one : Owner → List ℕ → Bool → Place
+after_one owner addresses more = if more then address (listed owner addresses) else whole owner addresses
+
+-- what stands behind one term of a sum
+abbrev pub after_one_term : Side → List Term → Bool → Place
+after_one_term side terms more = if more then term (with_terms side terms) else ended (with_terms side terms)
 
 -- something was taken from the tokens
 abbrev pub Shortens : {X : Type 0} → Result X Stop → List Placed → List Placed → Type 0

@@ -1,4 +1,4 @@
--- What each fact of a text is like: its numbers have 32 bits, no list is empty, and a name could stand between quotation marks.
+-- What each fact of a text is like: its numbers have 32 bits, no list is empty but one of a call string, and a name could stand between quotation marks.
 use Rattle.std.specs.Prelude.{◌≡◌, ℕ, ◌<◌, ◌^◌, true, List, [], ◌∷◌, IfSome}
 use Rattle.std.specs.List.{AllByRecursion}
 use Rattle.wc_model.specs.declared.flow_facts.Fact.{Fact}
@@ -16,10 +16,10 @@ IsFilled (x ∷ xs) = Unit {0}
 
 abbrev pub IsStatedTerm : Term → Type 0
 IsStatedTerm (Constant n) = IsSmall n
-IsStatedTerm (Visits times at) = IsSmall times × IsSmall at
+IsStatedTerm (Visits times at within) = IsSmall times × IsSmall at × AllByRecursion IsSmall within
 
 abbrev pub IsStated : Fact → Type 0
-IsStated (Loop at bound) = IsSmall at × IfSome bound IsSmall
+IsStated (Loop at bound within) = IsSmall at × IfSome bound IsSmall × AllByRecursion IsSmall within
 IsStated (Multibranch at to) = IsSmall at × IsFilled to × AllByRecursion IsSmall to
 IsStated (Multicall at to) = IsSmall at × IsFilled to × AllByRecursion IsSmall to
 IsStated (Noreturn at) = IsSmall at

@@ -2,8 +2,7 @@
 use Rattle.std.specs.Prelude.{◌≡◌, ℕ, Bool, true, false, List, ◌∷◌, Option, None, Some, Result, Ok, Err}
 use Rattle.wc_f4.specs.declared.stops.Stop.{Stop}
 use Rattle.wc_f4.specs.declared.stops.Stop.TheVariants.{Bad}
-use Rattle.wc_f4.specs.declared.tokens.Mark.{Mark}
-use Rattle.wc_f4.specs.Tokens.{Token, Placed, mark, text_end}
+use Rattle.wc_f4.specs.Tokens.{Token, Placed, text_end}
 
 -- the token stands first, at the place
 abbrev pub Heads : Token → ℕ → List Placed → Type 0
@@ -24,9 +23,10 @@ abbrev pub TakesAny : {X : Type 0} → (X → Token) → Option X → List Place
 TakesAny is (Some x) old new = (place : ℕ) × (old ≡ (is x, place) ∷ new)
 TakesAny is None old new = (new ≡ old) × ((place : ℕ) × IsOther is place old)
 
-abbrev pub TakesMark : Mark → Bool → List Placed → List Placed → Type 0
-TakesMark wanted true old new = (place : ℕ) × (old ≡ (mark wanted, place) ∷ new)
-TakesMark wanted false old new = (new ≡ old) × ((place : ℕ) × IsOther {X = Unit {0}} (λ _. mark wanted) place old)
+-- the first token is read, if it is this one
+abbrev pub TakesThis : Token → Bool → List Placed → List Placed → Type 0
+TakesThis wanted true old new = (place : ℕ) × (old ≡ (wanted, place) ∷ new)
+TakesThis wanted false old new = (new ≡ old) × ((place : ℕ) × IsOther {X = Unit {0}} (λ _. wanted) place old)
 
 -- the end of the text stands first
 abbrev pub StandsAtEnd : Bool → List Placed → Type 0

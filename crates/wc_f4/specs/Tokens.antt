@@ -3,7 +3,7 @@ use Rattle.std.specs.Prelude.{ℕ, zero, suc, ◌+◌, ◌-◌, ◌^◌, ◌&&�
 use Rattle.wc_f4.specs.declared.tokens.Mark.{Mark}
 use Rattle.wc_f4.specs.declared.tokens.Mark.TheVariants as sign
 use Rattle.wc_f4.specs.declared.tokens.Word.{Word}
-use Rattle.wc_f4.specs.declared.tokens.Word.TheVariants.{Loop, Multibranch, Multicall, Noreturn, Checksum, Limit, To, Other}
+use Rattle.wc_f4.specs.declared.tokens.Word.TheVariants.{Loop, Multibranch, Multicall, Noreturn, Checksum, Limit, To, In, Other}
 use Rattle.wc_f4.specs.declared.runs.Kind.TheVariants as kind
 use Rattle.wc_f4.specs.Bytes.{is_blank, is_letter, is_digit, run, run_length, has_at, closing_length, value_from}
 
@@ -22,7 +22,7 @@ word_of w =
     if bytes_eq w (codes "loop") then Loop else (if bytes_eq w (codes "multibranch") then Multibranch else
     (if bytes_eq w (codes "multicall") then Multicall else (if bytes_eq w (codes "noreturn") then Noreturn else
     (if bytes_eq w (codes "checksum") then Checksum else (if bytes_eq w (codes "limit") then Limit else
-    (if bytes_eq w (codes "to") then To else Other))))))
+    (if bytes_eq w (codes "to") then To else (if bytes_eq w (codes "in") then In else Other)))))))
 
 abbrev pub mark_of : ℕ → Token
 mark_of b =

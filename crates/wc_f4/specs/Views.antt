@@ -5,6 +5,9 @@ use Rattle.wc_f4.specs.declared.tokens.Token.TheVariants.{Word, Number, Quoted, 
 use Rattle.wc_f4.specs.declared.pieces.Piece.{Piece as CodePiece}
 use Rattle.wc_f4.specs.declared.readers.Placed.{Placed as CodePlaced}
 use Rattle.wc_f4.specs.declared.readers.Reader.{Reader}
+use Rattle.wc_f4.specs.declared.lookups.Lookup.{Lookup}
+use Rattle.wc_f4.specs.Grammar.{Names}
+use Rattle.wc_f4.specs.Reading.{names_of}
 use Rattle.wc_f4.specs.Tokens.{Token, Piece, Placed, word, number, quoted, mark, wrong, text_end, tokens_from}
 
 abbrev pub seen : CodeToken → Token
@@ -33,3 +36,15 @@ from_placed text p = (seen p.token, p.place) ∷ behind p.token p.after text
 -- the tokens that a reader hasn't read
 unfoldable pub left : Reader → List Placed
 left r = from_placed r.text.now r.next
+
+-- the names that a look-up finds
+abbrev pub known : Lookup → Names
+known lookup = names_of lookup.image.now
+
+-- what a reader and a look-up have before them: the names, and the tokens to come
+abbrev pub ahead : Lookup → Reader → Names × List Placed
+ahead lookup r = (known lookup, left r)
+
+-- what a reader reads alone, under any names
+abbrev pub Alone : (Names × List Placed → Names × List Placed → Type 0) → Reader → Reader → Type 0
+Alone IsRead old new = (names : Names) → IsRead (names, left old) (names, left new)

@@ -1,7 +1,12 @@
 //! The flow facts of a program, read from a text in the F4 profile and printed again.
 #![tactic(auto)]
 
+mod addresses;
+mod branchings;
 mod facts;
+mod finding;
+mod lookups;
+mod name_order;
 mod pieces;
 mod printing;
 mod readers;

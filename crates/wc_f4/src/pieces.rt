@@ -37,6 +37,8 @@ fn word_of(word: &[u8]) -> Word
         Word::Limit
     } else if is_word(word, "to") {
         Word::To
+    } else if is_word(word, "in") {
+        Word::In
     } else {
         Word::Other
     }

@@ -4,7 +4,8 @@ ghost use Rattle.wc_io.specs.Causes.{HasCause};
 ghost use Rattle.wc_io.specs.Writing.{Writes};
 ghost use Rattle.wc_f4.specs.Reading.{GivesBack, ReadsOne};
 ghost use Rattle.wc_f4.specs.Stated.{IsStated};
-ghost use Rattle.wc_f4.specs.FactText.{fact_text, limit_text, loop_text, separated, sum_text, targets_text, term_text, visits_text};
+ghost use Rattle.wc_f4.specs.FactText.{addresses_text, bound_text, branching_text, fact_text, limit_text, loop_text, separated, sum_text, term_text, times_text, within_text};
+ghost use Rattle.wc_model.specs.declared.flow_facts.Term.TheVariants.{Visits};
 
 use std::alloc::{AllocError, Global};
 use wc_base::Addr;
@@ -12,57 +13,82 @@ use wc_io::{Failed, MemorySink, Piece, Sink, write_pieces, write_whole};
 use wc_model::{Fact, Term};
 
 /// Appends addresses, each behind a comma.
-fn write_more_targets<K: Sink>(sink: &mut K, targets: &[Addr]) -> Result<(), Failed>
-    ensures text { Writes (K.held sink.old) (K.held sink.new) result (separated (codes ", ") address targets.now) }
+fn write_more_addresses<K: Sink>(sink: &mut K, addresses: &[Addr]) -> Result<(), Failed>
+    ensures text { Writes (K.held sink.old) (K.held sink.new) result (separated (codes ", ") address addresses.now) }
     ensures cause { HasCause (K.faults sink.old) (K.faults sink.new) result }
     ensures place { K.place sink.new ≡ K.place sink.old }
 {
-    for target in targets {
-        match write_pieces(sink, &[Piece::Bytes(b", "), Piece::Address(*target)]) {
-            Ok(()) => {}
-            Err(Failed) => return Err(Failed),
-        }
+    for address in addresses {
+        write_pieces(sink, &[Piece::Bytes(b", "), Piece::Address(*address)])?;
     }
     Ok(())
 }
 
 /// Appends addresses with commas between them.
-fn write_targets<K: Sink>(sink: &mut K, targets: &[Addr]) -> Result<(), Failed>
-    ensures text { Writes (K.held sink.old) (K.held sink.new) result (targets_text targets.now) }
+fn write_addresses<K: Sink>(sink: &mut K, addresses: &[Addr]) -> Result<(), Failed>
+    ensures text { Writes (K.held sink.old) (K.held sink.new) result (addresses_text addresses.now) }
     ensures cause { HasCause (K.faults sink.old) (K.faults sink.new) result }
     ensures place { K.place sink.new ≡ K.place sink.old }
 {
-    let Some((first, more)) = targets.split_first() else {
+    let Some((first, more)) = addresses.split_first() else {
         return Ok(());
     };
-    match write_pieces(sink, &[Piece::Address(*first)]) {
-        Ok(()) => write_more_targets(sink, more),
-        Err(Failed) => Err(Failed),
-    }
+    write_pieces(sink, &[Piece::Address(*first)])?;
+    write_more_addresses(sink, more)
 }
 
-/// Appends the visits of an address; once is written without its number.
-fn write_visits<K: Sink>(sink: &mut K, times: u32, at: Addr) -> Result<(), Failed>
-    ensures text { Writes (K.held sink.old) (K.held sink.new) result (visits_text times at) }
+/// Appends addresses and what ends them.
+fn write_list<K: Sink>(sink: &mut K, addresses: &[Addr], end: &[u8]) -> Result<(), Failed>
+    ensures text { Writes (K.held sink.old) (K.held sink.new) result (addresses_text addresses.now ++ end.now) }
+    ensures cause { HasCause (K.faults sink.old) (K.faults sink.new) result }
+    ensures place { K.place sink.new ≡ K.place sink.old }
+{
+    write_addresses(sink, addresses)?;
+    write_whole(sink, end)
+}
+
+/// Appends the calls of a call string, if there are any, and what ends them.
+fn write_within<K: Sink>(sink: &mut K, within: &[Addr], end: &[u8]) -> Result<(), Failed>
+    ensures text { Writes (K.held sink.old) (K.held sink.new) result (within_text within.now ++ end.now) }
+    ensures cause { HasCause (K.faults sink.old) (K.faults sink.new) result }
+    ensures place { K.place sink.new ≡ K.place sink.old }
+{
+    if within.is_empty() {
+        return write_whole(sink, end);
+    }
+    write_whole(sink, b" in ")?;
+    write_list(sink, within, end)
+}
+
+/// Appends how often visits count; once is written without its number.
+fn write_times<K: Sink>(sink: &mut K, times: u32) -> Result<(), Failed>
+    ensures text { Writes (K.held sink.old) (K.held sink.new) result (times_text times) }
     ensures cause { HasCause (K.faults sink.old) (K.faults sink.new) result }
     ensures place { K.place sink.new ≡ K.place sink.old }
 {
     if times == 1 {
-        write_pieces(
-            sink,
-            &[Piece::Bytes(b"["), Piece::Address(at), Piece::Bytes(b"]")],
-        )
-    } else {
-        write_pieces(
-            sink,
-            &[
-                Piece::Decimal(times as u128),
-                Piece::Bytes(b" * ["),
-                Piece::Address(at),
-                Piece::Bytes(b"]"),
-            ],
-        )
+        return Ok(());
     }
+    write_pieces(sink, &[Piece::Decimal(times as u128), Piece::Bytes(b" * ")])
+}
+
+/// Appends an address in its brackets.
+fn write_visited<K: Sink>(sink: &mut K, at: Addr, within: &[Addr]) -> Result<(), Failed>
+    ensures text { Writes (K.held sink.old) (K.held sink.new) result ((codes "[" ++ address at) ++ (within_text within.now ++ codes "]")) }
+    ensures cause { HasCause (K.faults sink.old) (K.faults sink.new) result }
+    ensures place { K.place sink.new ≡ K.place sink.old }
+{
+    write_pieces(sink, &[Piece::Bytes(b"["), Piece::Address(at)])?;
+    write_within(sink, within, b"]")
+}
+
+fn write_visits<K: Sink>(sink: &mut K, times: u32, at: Addr, within: &[Addr]) -> Result<(), Failed>
+    ensures text { Writes (K.held sink.old) (K.held sink.new) result (term_text (Visits times at within.now)) }
+    ensures cause { HasCause (K.faults sink.old) (K.faults sink.new) result }
+    ensures place { K.place sink.new ≡ K.place sink.old }
+{
+    write_times(sink, times)?;
+    write_visited(sink, at, within)
 }
 
 fn write_term<K: Sink>(sink: &mut K, term: &Term) -> Result<(), Failed>
@@ -72,7 +98,7 @@ fn write_term<K: Sink>(sink: &mut K, term: &Term) -> Result<(), Failed>
 {
     match term {
         Term::Constant(number) => write_pieces(sink, &[Piece::Decimal(*number as u128)]),
-        Term::Visits { times, at } => write_visits(sink, *times, *at),
+        Term::Visits { times, at, within } => write_visits(sink, *times, *at, within.items()),
     }
 }
 
@@ -82,10 +108,8 @@ fn write_next_term<K: Sink>(sink: &mut K, term: &Term) -> Result<(), Failed>
     ensures cause { HasCause (K.faults sink.old) (K.faults sink.new) result }
     ensures place { K.place sink.new ≡ K.place sink.old }
 {
-    match write_whole(sink, b" + ") {
-        Ok(()) => write_term(sink, term),
-        Err(Failed) => Err(Failed),
-    }
+    write_whole(sink, b" + ")?;
+    write_term(sink, term)
 }
 
 fn write_more_terms<K: Sink>(sink: &mut K, terms: &[Term]) -> Result<(), Failed>
@@ -94,10 +118,7 @@ fn write_more_terms<K: Sink>(sink: &mut K, terms: &[Term]) -> Result<(), Failed>
     ensures place { K.place sink.new ≡ K.place sink.old }
 {
     for term in terms {
-        match write_next_term(sink, term) {
-            Ok(()) => {}
-            Err(Failed) => return Err(Failed),
-        }
+        write_next_term(sink, term)?;
     }
     Ok(())
 }
@@ -111,81 +132,58 @@ fn write_sum<K: Sink>(sink: &mut K, terms: &[Term]) -> Result<(), Failed>
     let Some((first, more)) = terms.split_first() else {
         return Ok(());
     };
-    match write_term(sink, first) {
-        Ok(()) => write_more_terms(sink, more),
-        Err(Failed) => Err(Failed),
-    }
+    write_term(sink, first)?;
+    write_more_terms(sink, more)
 }
 
-fn write_loop<K: Sink>(sink: &mut K, at: Addr, bound: Option<u32>) -> Result<(), Failed>
-    ensures text { Writes (K.held sink.old) (K.held sink.new) result (loop_text at bound) }
+/// Appends the head and the bound of a loop.
+fn write_bound<K: Sink>(sink: &mut K, at: Addr, bound: Option<u32>) -> Result<(), Failed>
+    ensures text { Writes (K.held sink.old) (K.held sink.new) result (codes "loop " ++ address at ++ codes " " ++ bound_text bound) }
     ensures cause { HasCause (K.faults sink.old) (K.faults sink.new) result }
     ensures place { K.place sink.new ≡ K.place sink.old }
 {
-    match bound {
-        Some(bound) => write_pieces(
-            sink,
-            &[
-                Piece::Bytes(b"loop "),
-                Piece::Address(at),
-                Piece::Bytes(b" "),
-                Piece::Decimal(bound as u128),
-                Piece::Bytes(b";"),
-            ],
-        ),
-        None => write_pieces(
-            sink,
-            &[
-                Piece::Bytes(b"loop "),
-                Piece::Address(at),
-                Piece::Bytes(b" ?;"),
-            ],
-        ),
-    }
+    let value = match bound {
+        Some(bound) => Piece::Decimal(bound as u128),
+        None => Piece::Bytes(b"?"),
+    };
+    write_pieces(
+        sink,
+        &[
+            Piece::Bytes(b"loop "),
+            Piece::Address(at),
+            Piece::Bytes(b" "),
+            value,
+        ],
+    )
 }
 
-/// Appends the targets and the fact's end.
-fn write_last_targets<K: Sink>(sink: &mut K, targets: &[Addr]) -> Result<(), Failed>
-    ensures text { Writes (K.held sink.old) (K.held sink.new) result (targets_text targets.now ++ codes ";") }
+fn write_loop<K: Sink>(
+    sink: &mut K,
+    at: Addr,
+    bound: Option<u32>,
+    within: &[Addr],
+) -> Result<(), Failed>
+    ensures text { Writes (K.held sink.old) (K.held sink.new) result (loop_text at bound within.now) }
     ensures cause { HasCause (K.faults sink.old) (K.faults sink.new) result }
     ensures place { K.place sink.new ≡ K.place sink.old }
 {
-    match write_targets(sink, targets) {
-        Ok(()) => write_whole(sink, b";"),
-        Err(Failed) => Err(Failed),
-    }
+    write_bound(sink, at, bound)?;
+    write_within(sink, within, b";")
 }
 
-fn write_multibranch<K: Sink>(sink: &mut K, at: Addr, targets: &[Addr]) -> Result<(), Failed>
-    ensures text { Writes (K.held sink.old) (K.held sink.new) result (codes "multibranch " ++ address at ++ codes " to " ++ targets_text targets.now ++ codes ";") }
+/// Appends where an indirect jump or call may lead, behind the word of the fact.
+fn write_branching<K: Sink>(sink: &mut K, word: &[u8], at: Addr, to: &[Addr]) -> Result<(), Failed>
+    ensures text { Writes (K.held sink.old) (K.held sink.new) result (branching_text word.now at to.now) }
     ensures cause { HasCause (K.faults sink.old) (K.faults sink.new) result }
     ensures place { K.place sink.new ≡ K.place sink.old }
 {
     let head = [
-        Piece::Bytes(b"multibranch "),
+        Piece::Bytes(word),
         Piece::Address(at),
         Piece::Bytes(b" to "),
     ];
-    match write_pieces(sink, &head) {
-        Ok(()) => write_last_targets(sink, targets),
-        Err(Failed) => Err(Failed),
-    }
-}
-
-fn write_multicall<K: Sink>(sink: &mut K, at: Addr, targets: &[Addr]) -> Result<(), Failed>
-    ensures text { Writes (K.held sink.old) (K.held sink.new) result (codes "multicall " ++ address at ++ codes " to " ++ targets_text targets.now ++ codes ";") }
-    ensures cause { HasCause (K.faults sink.old) (K.faults sink.new) result }
-    ensures place { K.place sink.new ≡ K.place sink.old }
-{
-    let head = [
-        Piece::Bytes(b"multicall "),
-        Piece::Address(at),
-        Piece::Bytes(b" to "),
-    ];
-    match write_pieces(sink, &head) {
-        Ok(()) => write_last_targets(sink, targets),
-        Err(Failed) => Err(Failed),
-    }
+    write_pieces(sink, &head)?;
+    write_list(sink, to, b";")
 }
 
 fn write_checksum<K: Sink>(sink: &mut K, name: &[u8], value: u32) -> Result<(), Failed>
@@ -211,10 +209,8 @@ fn write_left<K: Sink>(sink: &mut K, terms: &[Term]) -> Result<(), Failed>
     ensures cause { HasCause (K.faults sink.old) (K.faults sink.new) result }
     ensures place { K.place sink.new ≡ K.place sink.old }
 {
-    match write_whole(sink, b"limit ") {
-        Ok(()) => write_sum(sink, terms),
-        Err(Failed) => Err(Failed),
-    }
+    write_whole(sink, b"limit ")?;
+    write_sum(sink, terms)
 }
 
 /// Appends the right side of an inequality, with the sign before it.
@@ -223,10 +219,8 @@ fn write_right<K: Sink>(sink: &mut K, terms: &[Term]) -> Result<(), Failed>
     ensures cause { HasCause (K.faults sink.old) (K.faults sink.new) result }
     ensures place { K.place sink.new ≡ K.place sink.old }
 {
-    match write_whole(sink, b" <= ") {
-        Ok(()) => write_sum(sink, terms),
-        Err(Failed) => Err(Failed),
-    }
+    write_whole(sink, b" <= ")?;
+    write_sum(sink, terms)
 }
 
 /// Appends the right side of an inequality and the fact's end.
@@ -235,10 +229,8 @@ fn write_last_side<K: Sink>(sink: &mut K, terms: &[Term]) -> Result<(), Failed>
     ensures cause { HasCause (K.faults sink.old) (K.faults sink.new) result }
     ensures place { K.place sink.new ≡ K.place sink.old }
 {
-    match write_right(sink, terms) {
-        Ok(()) => write_whole(sink, b";"),
-        Err(Failed) => Err(Failed),
-    }
+    write_right(sink, terms)?;
+    write_whole(sink, b";")
 }
 
 fn write_limit<K: Sink>(sink: &mut K, left: &[Term], right: &[Term]) -> Result<(), Failed>
@@ -246,10 +238,8 @@ fn write_limit<K: Sink>(sink: &mut K, left: &[Term], right: &[Term]) -> Result<(
     ensures cause { HasCause (K.faults sink.old) (K.faults sink.new) result }
     ensures place { K.place sink.new ≡ K.place sink.old }
 {
-    match write_left(sink, left) {
-        Ok(()) => write_last_side(sink, right),
-        Err(Failed) => Err(Failed),
-    }
+    write_left(sink, left)?;
+    write_last_side(sink, right)
 }
 
 /// Appends the fact as a text that reads as the fact. After `Failed` a prefix was appended.
@@ -259,9 +249,9 @@ pub fn write_fact<K: Sink>(sink: &mut K, fact: &Fact) -> Result<(), Failed>
     ensures place { K.place sink.new ≡ K.place sink.old }
 {
     match fact {
-        Fact::Loop { at, bound } => write_loop(sink, *at, *bound),
-        Fact::Multibranch { at, to } => write_multibranch(sink, *at, to.items()),
-        Fact::Multicall { at, to } => write_multicall(sink, *at, to.items()),
+        Fact::Loop { at, bound, within } => write_loop(sink, *at, *bound, within.items()),
+        Fact::Multibranch { at, to } => write_branching(sink, b"multibranch ", *at, to.items()),
+        Fact::Multicall { at, to } => write_branching(sink, b"multicall ", *at, to.items()),
         Fact::Noreturn { at } => write_pieces(
             sink,
             &[

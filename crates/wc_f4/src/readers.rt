@@ -1,5 +1,5 @@
 ghost use Rattle.std.specs.Prelude.{◌≡◌, drop, false};
-ghost use Rattle.wc_f4.specs.Taking.{Heads, StandsAtEnd, Takes, TakesAny, TakesMark, map_ok};
+ghost use Rattle.wc_f4.specs.Taking.{Heads, StandsAtEnd, Takes, TakesAny, TakesThis, map_ok};
 ghost use Rattle.wc_f4.specs.Tokens.{mark, number, quoted, tokens_from, word};
 ghost use Rattle.wc_f4.specs.Views.{behind, from_placed, is_end, left, seen};
 
@@ -100,11 +100,41 @@ impl<'a> Reader<'a> {
     /// Reads the mark, if it stands here.
     #[tactic(auto, unfolding(crate::specs::Views::left))]
     pub fn has_mark(&mut self, wanted: Mark) -> bool
-        ensures { TakesMark wanted result (left self.old) (left self.new) }
+        ensures { TakesThis (mark wanted) result (left self.old) (left self.new) }
     {
         let token = self.next.token;
         match token {
             Token::Mark(mark) if mark == wanted => {
+                self.advance();
+                true
+            }
+            _ => false,
+        }
+    }
+
+    /// Reads the word.
+    #[tactic(auto, unfolding(crate::specs::Views::left))]
+    pub fn keyword(&mut self, wanted: Word) -> Result<(), Stop>
+        ensures { Takes (λ _. word wanted) result (left self.old) (left self.new) }
+    {
+        let token = self.next.token;
+        match token {
+            Token::Word(word) if word == wanted => {
+                self.advance();
+                Ok(())
+            }
+            _ => Err(Stop::Bad(self.next.place)),
+        }
+    }
+
+    /// Reads the word, if it stands here.
+    #[tactic(auto, unfolding(crate::specs::Views::left))]
+    pub fn has_keyword(&mut self, wanted: Word) -> bool
+        ensures { TakesThis (word wanted) result (left self.old) (left self.new) }
+    {
+        let token = self.next.token;
+        match token {
+            Token::Word(word) if word == wanted => {
                 self.advance();
                 true
             }

@@ -1,16 +1,17 @@
-ghost use Rattle.std.specs.Prelude.{◌≡◌, [], ◌∷◌, ◌++◌, false, All, IfOk, Ok};
+ghost use Rattle.std.specs.Prelude.{◌≡◌, [], ◌∷◌, false, All, IfOk, Ok};
 ghost use Rattle.wc_f4.specs.Taking.{StandsAtEnd};
 ghost use Rattle.wc_f4.specs.Places.{Goes, Shortens, answer, finish, first, start};
 ghost use Rattle.wc_f4.specs.Reading.{GivesBack, ReadsFacts, ReadsOne, map_value, names_of, trouble_of};
 ghost use Rattle.wc_f4.specs.Stated.{IsStated};
 ghost use Rattle.wc_f4.specs.Grammar.{IsWhole, any};
 ghost use Rattle.wc_f4.specs.Tokens.{line_at, placed_tokens, tokens_of};
-ghost use Rattle.wc_f4.specs.Views.{left};
+ghost use Rattle.wc_f4.specs.Views.{known, left};
 
 use crate::facts::fact;
+use crate::lookups::Lookup;
 use crate::readers::Reader;
 use crate::stops::Stop;
-use std::alloc::{AllocError, Global};
+use std::alloc::Global;
 use wc_base::{Fault, Trouble};
 use wc_model::{Fact, Image};
 
@@ -38,61 +39,57 @@ fn trouble_of(text: &[u8], stop: Stop) -> Trouble
     }
 }
 
-fn add(facts: &mut Vec<Fact>, fact: Fact) -> Result<(), AllocError>
-    ensures { IfOk result (λ _. facts.new.items ≡ facts.old.items ++ fact ∷ []) }
-{
-    facts.push(fact)?;
-    Ok(())
-}
-
 /// Adds the next fact.
 fn next_fact(
     facts: &mut Vec<Fact>,
     alloc: Global,
     reader: &mut Reader,
-    image: &Image,
+    names: &mut Lookup,
 ) -> Result<(), Stop>
     requires { StandsAtEnd false (left reader.old) }
-    ensures read { Goes result (answer (names_of image.now) start start facts.old.items (left reader.old)) (λ _. answer (names_of image.now) start start facts.new.items (left reader.new)) }
+    ensures read { Goes result (answer (known names.old) start start facts.old.items (left reader.old)) (λ _. answer (known names.new) start start facts.new.items (left reader.new)) }
     ensures shorter { Shortens result (left reader.old) (left reader.new) }
 {
-    let fact = match fact(alloc, reader, image) {
-        Ok(fact) => fact,
-        Err(stop) => return Err(stop),
-    };
-    match add(facts, fact) {
-        Ok(()) => Ok(()),
-        Err(error) => Err(Stop::Memory(error)),
-    }
+    let fact = fact(alloc, reader, names)?;
+    facts.push(fact)?;
+    Ok(())
 }
 
-fn all_facts(alloc: Global, reader: &mut Reader, image: &Image) -> Result<Vec<Fact>, Stop>
-    ensures { Goes result (answer (names_of image.now) start start [] (left reader.old)) (λ facts. Ok facts.items) }
+fn all_facts(alloc: Global, reader: &mut Reader, names: &mut Lookup) -> Result<Vec<Fact>, Stop>
+    ensures { Goes result (answer (known names.old) start start [] (left reader.old)) (λ facts. Ok facts.items) }
 {
     let mut facts = Vec::new(alloc);
-    'facts: loop {
-        if reader.is_at_end() {
-            return Ok(facts);
-        }
-        match next_fact(&mut facts, alloc, reader, image) {
-            Ok(()) => {}
-            Err(stop) => return Err(stop),
-        }
+    'facts: while !reader.is_at_end() {
+        next_fact(&mut facts, alloc, reader, names)?;
     }
+    Ok(facts)
 }
 
-fn one_fact(alloc: Global, reader: &mut Reader, image: &Image) -> Result<Fact, Stop>
-    ensures { Goes result (answer (names_of image.now) finish first [] (left reader.old)) (λ fact. Ok (fact ∷ [])) }
+fn one_fact(alloc: Global, reader: &mut Reader, names: &mut Lookup) -> Result<Fact, Stop>
+    ensures { Goes result (answer (known names.old) finish first [] (left reader.old)) (λ fact. Ok (fact ∷ [])) }
 {
-    let fact = match fact(alloc, reader, image) {
-        Ok(fact) => fact,
-        Err(stop) => return Err(stop),
-    };
+    let fact = fact(alloc, reader, names)?;
     if reader.is_at_end() {
         Ok(fact)
     } else {
         Err(Stop::Bad(reader.place()))
     }
+}
+
+fn facts_of(alloc: Global, text: &[u8], image: &Image) -> Result<Vec<Fact>, Stop>
+    ensures { Goes result (answer (names_of image.now) start start [] (placed_tokens text.now)) (λ facts. Ok facts.items) }
+{
+    let mut reader = Reader::new(text);
+    let mut names = Lookup::new(alloc, image);
+    all_facts(alloc, &mut reader, &mut names)
+}
+
+fn fact_of(alloc: Global, text: &[u8], image: &Image) -> Result<Fact, Stop>
+    ensures { Goes result (answer (names_of image.now) finish first [] (placed_tokens text.now)) (λ fact. Ok (fact ∷ [])) }
+{
+    let mut reader = Reader::new(text);
+    let mut names = Lookup::new(alloc, image);
+    one_fact(alloc, &mut reader, &mut names)
 }
 
 /// The facts that a text states. Names in addresses are those of the image. The fault is that of the first token
@@ -103,8 +100,7 @@ pub fn read_facts(alloc: Global, text: &[u8], image: &Image) -> Result<Vec<Fact>
     ensures only { (facts : _) → IsWhole any (names_of image.now) (tokens_of (placed_tokens text.now)) facts → GivesBack facts (map_value (λ v. v.items) result) }
     ensures stated { IfOk result (λ facts. All IsStated facts.items) }
 {
-    let mut reader = Reader::new(text);
-    match all_facts(alloc, &mut reader, image) {
+    match facts_of(alloc, text, image) {
         Ok(facts) => Ok(facts),
         Err(stop) => Err(trouble_of(text, stop)),
     }
@@ -115,8 +111,7 @@ pub fn read_one(alloc: Global, text: &[u8], image: &Image) -> Result<Fact, Troub
     ensures read { ReadsOne (names_of image.now) text.now result }
     ensures stated { IfOk result IsStated }
 {
-    let mut reader = Reader::new(text);
-    match one_fact(alloc, &mut reader, image) {
+    match fact_of(alloc, text, image) {
         Ok(fact) => Ok(fact),
         Err(stop) => Err(trouble_of(text, stop)),
     }

@@ -61,6 +61,31 @@ fn facts_print_in_their_one_form(rt: HostRuntime) -> Result<(), Fail> {
             "limit 1 * [\"f\"] <= [8] + 0 * [9] + 4;",
             "limit [0x00008004] <= [0x00000008] + 0 * [0x00000009] + 4;",
         ),
+        ("loop 0x8014 9;", "loop 0x00008014 9;"),
+        (
+            "loop 0x8014 2 in 0x8004;",
+            "loop 0x00008014 2 in 0x00008004;",
+        ),
+        (
+            "loop 0x8014 20 in 0x8008;",
+            "loop 0x00008014 20 in 0x00008008;",
+        ),
+        (
+            "loop 0x8014 2 in 0x8000, 0x8004;",
+            "loop 0x00008014 2 in 0x00008000, 0x00008004;",
+        ),
+        (
+            "limit [0x8014 in 0x8004] <= 3;",
+            "limit [0x00008014 in 0x00008004] <= 3;",
+        ),
+        (
+            "loop\"f\"?in\"f\"+4,8;",
+            "loop 0x00008004 ? in 0x00008008, 0x00000008;",
+        ),
+        (
+            "limit 7 * [ 8 in 9,\"f\" ]+ [10]<=2*[ 11 in 12 ];",
+            "limit 7 * [0x00000008 in 0x00000009, 0x00008004] + [0x0000000a] <= 2 * [0x0000000b in 0x0000000c];",
+        ),
         (
             "// a loop\n /**/ loop /* in *the* middle */ 8 //\r\n 9/*/;*/;//",
             "loop 0x00000008 9;",
@@ -114,6 +139,15 @@ fn the_first_wrong_token_is_refused(rt: HostRuntime) -> Result<(), Fail> {
         ("limit 1 +\n<= 3;", 2),
         ("limit 1 <= 2\n<= 3;", 2),
         ("to", 1),
+        ("loop 0x8014 2 in;", 1),
+        ("loop 8\nin 9;", 2),
+        ("loop 8 2 in 9,\n;", 2),
+        ("loop 8 2 in 9\nin 10;", 2),
+        ("loop 8 2 in\n?;", 2),
+        ("limit [8 in\n] <= 3;", 2),
+        ("limit [8 in 9\n; ] <= 3;", 2),
+        ("multicall 8 to 9\nin 10;", 2),
+        ("noreturn 8\nin 9;", 2),
     ];
     let image = image(rt.alloc())?;
     for (text, line) in table {
@@ -139,6 +173,8 @@ fn names_that_are_not_found_are_refused(rt: HostRuntime) -> Result<(), Fail> {
         ("loop ;\nloop \"nope\" 3;", Fault::BadFact(1)),
         ("loop \"nope\n\" 3;", Fault::BadFact(1)),
         ("loop \"nope\" /*", Fault::UnknownLabel(1)),
+        ("loop 8 2 in 9,\n\"nope\"", Fault::UnknownLabel(2)),
+        ("loop 8 2 in 9\n\"nope\"", Fault::BadFact(2)),
     ];
     let image = image(rt.alloc())?;
     for (text, fault) in table {

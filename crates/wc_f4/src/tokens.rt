@@ -1,5 +1,5 @@
 /// A word of the grammar, or another word of small letters.
-#[derive(Clone, Copy)]
+#[derive(Clone, Copy, PartialEq, Eq)]
 pub enum Word {
     Loop,
     Multibranch,
@@ -8,6 +8,7 @@ pub enum Word {
     Checksum,
     Limit,
     To,
+    In,
     Other,
 }
 

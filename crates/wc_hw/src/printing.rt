@@ -1,6 +1,5 @@
 ghost use Rattle.std.specs.Prelude.{◌≡◌, Ok, IfOk};
-ghost use Rattle.wc_io.specs.Causes.{HasCause};
-ghost use Rattle.wc_io.specs.Writing.{Writes};
+ghost use Rattle.wc_io.specs.Writing.{WritesTo};
 ghost use Rattle.wc_hw.specs.Reading.{ReadsAs};
 ghost use Rattle.wc_hw.specs.HardwareText.{cache_text, cycles_text, hardware_text, icache_text, start_text};
 
@@ -9,9 +8,7 @@ use wc_io::{Failed, MemorySink, Piece, Sink, write_pieces, write_whole};
 use wc_model::{Cache, Cycles, Hardware, StartState};
 
 fn write_cycles<K: Sink>(sink: &mut K, cycles: &Cycles) -> Result<(), Failed>
-    ensures text { Writes (K.held sink.old) (K.held sink.new) result (cycles_text cycles.now) }
-    ensures cause { HasCause (K.faults sink.old) (K.faults sink.new) result }
-    ensures place { K.place sink.new ≡ K.place sink.old }
+    ensures { WritesTo K.Sink sink.old sink.new result (cycles_text cycles.now) }
 {
     write_pieces(
         sink,
@@ -51,9 +48,7 @@ fn start_text(start: StartState) -> &'static str
 }
 
 fn write_cache<K: Sink>(sink: &mut K, cache: &Cache, cycles: &Cycles) -> Result<(), Failed>
-    ensures text { Writes (K.held sink.old) (K.held sink.new) result (cache_text cache.now cycles.now) }
-    ensures cause { HasCause (K.faults sink.old) (K.faults sink.new) result }
-    ensures place { K.place sink.new ≡ K.place sink.old }
+    ensures { WritesTo K.Sink sink.old sink.new result (cache_text cache.now cycles.now) }
 {
     write_pieces(
         sink,
@@ -75,9 +70,7 @@ fn write_cache<K: Sink>(sink: &mut K, cache: &Cache, cycles: &Cycles) -> Result<
 
 /// Appends the hardware as JSON, with all names and without blanks. After `Failed` a shorter prefix was appended.
 pub fn write_hardware<K: Sink>(sink: &mut K, hardware: &Hardware) -> Result<(), Failed>
-    ensures text { Writes (K.held sink.old) (K.held sink.new) result (hardware_text hardware.now) }
-    ensures cause { HasCause (K.faults sink.old) (K.faults sink.new) result }
-    ensures place { K.place sink.new ≡ K.place sink.old }
+    ensures { WritesTo K.Sink sink.old sink.new result (hardware_text hardware.now) }
 {
     match write_cycles(sink, &hardware.cycles) {
         Ok(()) => write_rest(sink, hardware),
@@ -86,9 +79,7 @@ pub fn write_hardware<K: Sink>(sink: &mut K, hardware: &Hardware) -> Result<(), 
 }
 
 fn write_rest<K: Sink>(sink: &mut K, hardware: &Hardware) -> Result<(), Failed>
-    ensures text { Writes (K.held sink.old) (K.held sink.new) result (icache_text hardware.now.cycles hardware.now.cache) }
-    ensures cause { HasCause (K.faults sink.old) (K.faults sink.new) result }
-    ensures place { K.place sink.new ≡ K.place sink.old }
+    ensures { WritesTo K.Sink sink.old sink.new result (icache_text hardware.now.cycles hardware.now.cache) }
 {
     match &hardware.cache {
         Some(cache) => write_cache(sink, cache, &hardware.cycles),
@@ -106,14 +97,7 @@ pub fn print_hardware(alloc: Global, hardware: &Hardware) -> Result<Vec<u8>, All
     ensures text { IfOk result (λ text. text.items ≡ hardware_text hardware.now) }
     ensures read_back { IfOk result (λ text. ReadsAs text.items (Ok hardware.now)) }
 {
-    let mut sink = MemorySink {
-        place: 0,
-        path: String::new(alloc),
-        held: Vec::new(alloc),
-        calls: 0,
-        failing: Vec::new(alloc),
-        faults: 0,
-    };
+    let mut sink = MemorySink::new(alloc);
     states(*hardware);
     match write_hardware(&mut sink, hardware) {
         Ok(()) => Ok(sink.held),

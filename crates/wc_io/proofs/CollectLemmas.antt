@@ -3,10 +3,10 @@ use Rattle.std.proofs.Common.{◌≡◌, ℕ, zero, suc, ◌+◌, ◌-◌, ◌<�
 use Rattle.std.proofs.KnownBytes.{Consumes-trans}
 use Rattle.std.specs.Io.KnownBytes.{Consumes, IsAtEnd, prepend_known}
 use Rattle.wc_io.specs.Ahead.{Ahead, to_come}
-use Rattle.wc_io.specs.Feeds.{NoFeed, IsFirstFeed}
+use Rattle.wc_io.proofs.FeedLemmas.{NoFeed, IsFirstFeed, NoFeed_append, take_feed}
 use Rattle.wc_io.specs.Lines.{RawLine, raw_lines, size}
 use Rattle.wc_io.specs.Parts.{Buffered, IsPartOf, unended}
-use Rattle.wc_io.proofs.LineLemmas.{NoFeed_append, take_feed, raw_first, raw_unended, raw_longer, StartsLong}
+use Rattle.wc_io.proofs.LineLemmas.{raw_first, raw_unended, raw_longer, StartsLong}
 
 -- the bytes skipped come first
 known_skipped : (unread : List ℕ) (left : Option (List ℕ)) (n : ℕ) → Consumes (prepend_known unread left) (prepend_known (drop n unread) left) (take n unread)

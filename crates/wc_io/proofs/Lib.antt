@@ -1,5 +1,7 @@
 pub mod RowLemmas
+pub mod HouseLemmas
 pub mod WritingLemmas
+pub mod FeedLemmas
 pub mod FileLemmas
 pub mod LineLemmas
 pub mod CollectLemmas

@@ -1,8 +1,8 @@
 -- The lines of a script, found piece by piece.
-use Rattle.std.proofs.Common.{◌≡◌, ℕ, zero, suc, ◌+◌, ◌-◌, ◌<◌, ◌≤◌, ◌==◌, Bool, true, false, List, [], ◌∷◌, ◌++◌, length, take, drop, get_or, refl, sym, ap, ◌∙◌, subst, arith}
+use Rattle.std.proofs.Common.{◌≡◌, ℕ, suc, ◌+◌, ◌-◌, ◌<◌, ◌≤◌, ◌==◌, Bool, true, false, List, [], ◌∷◌, ◌++◌, length, take, drop, get_or, refl, sym, ap, ◌∙◌, subst, arith}
 use Rattle.std.proofs.lemmas.Bool.Decides.{nat_tests}
 use Rattle.std.proofs.lemmas.List.{drop-take, drop-drop, length-take}
-use Rattle.wc_io.specs.Feeds.{NoFeed, IsFirstFeed}
+use Rattle.wc_io.proofs.FeedLemmas.{NoFeed}
 use Rattle.wc_io.specs.Lines.{RawLine, raw_lines, with_front, size, without_return}
 use Rattle.wc_io.specs.Parts.{unended}
 
@@ -42,29 +42,6 @@ return_absent (b ∷ []) n d many other =
 return_absent (b ∷ c ∷ bs) n d many other =
     let back : n - 1 ≡ suc ((n - 1) - 1) = omega arith in
     ap (λ ys. b ∷ ys) (return_absent (c ∷ bs) (n - 1) d (omega arith) (λ some last. other (omega arith) (ap (λ i. get_or (b ∷ c ∷ bs) i d) back ∙ last)))
-
--- ---- bytes without LF
-
-pub NoFeed_append : (xs ys : List ℕ) → NoFeed xs → NoFeed ys → NoFeed (xs ++ ys)
-NoFeed_append [] ys first rest = rest
-NoFeed_append (x ∷ xs) ys first rest = (first.0, NoFeed_append xs ys first.1 rest)
-
-pub NoFeed_next : (xs : List ℕ) (i : ℕ) → i < length xs → NoFeed (take i xs) → (get_or xs i 0 ≡ 10 → ⊥) → NoFeed (take (i + 1) xs)
-NoFeed_next [] i within before other = absurd (omega arith)
-NoFeed_next (x ∷ xs) zero within before other = (other, tt)
-NoFeed_next (x ∷ xs) (suc i) within before other =
-    let e : suc i + 1 ≡ suc (i + 1) = omega arith in
-    subst (λ (n : ℕ). NoFeed (take n (x ∷ xs))) (sym e) (before.0, NoFeed_next xs i (omega arith) before.1 other)
-
-feed_taken : (xs : List ℕ) (i : ℕ) → i < length xs → get_or xs i 0 ≡ 10 → take (i + 1) xs ≡ take i xs ++ 10 ∷ []
-feed_taken [] i within here = absurd (omega arith)
-feed_taken (x ∷ xs) zero within here = ap (λ b. b ∷ []) here
-feed_taken (x ∷ xs) (suc i) within here =
-    let e : suc i + 1 ≡ suc (i + 1) = omega arith in
-    ap (λ n. take n (x ∷ xs)) e ∙ ap (λ ys. x ∷ ys) (feed_taken xs i (omega arith) here)
-
-pub take_feed : (xs : List ℕ) (i : ℕ) → IsFirstFeed xs i → take (i + 1) xs ≡ take i xs ++ 10 ∷ []
-take_feed xs i first = feed_taken xs i first.within first.here
 
 -- ---- the first line of some bytes
 

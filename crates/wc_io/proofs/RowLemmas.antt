@@ -1,9 +1,13 @@
 -- Marked rows, and what a list of opened paths keeps.
-use Rattle.std.proofs.Common.{◌≡◌, ℕ, zero, suc, ◌+◌, ◌-◌, ◌<◌, ◌≤◌, nat_lt, Bool, true, false, Some, string_bytes, List, [], ◌∷◌, ◌++◌, map, length, get_or, set, refl, sym, ap, ◌∙◌, arith, length-append, lt-ltb, zero-add, append-nil, append_assoc, cond, ◌||◌}
+use Rattle.std.proofs.Common.{◌≡◌, ℕ, zero, suc, ◌+◌, ◌-◌, ◌<◌, ◌≤◌, nat_lt, Bool, true, false, Some, string_bytes, List, [], ◌∷◌, ◌++◌, map, length, get_or, set, refl, sym, ap, ◌∙◌, arith, length-append, lt-ltb, zero-add, append-nil, append_assoc, cond, ◌||◌, inr, Result, Ok, Err}
+use Rattle.std.specs.Prelude.{IsErrOf}
 use Rattle.std.proofs.lemmas.List.{map-append}
 use Rattle.std.proofs.Math.Seq.{take-append_seam, take-append-add}
-use Rattle.wc_io.specs.Rows.{Row, row_of, row_failed, with_faults, marked, sink_at, path_at, IsRowOf, asked, is_failed, failed_count, AddsRows, AddsAllRows}
+use Rattle.wc_io.specs.Rows.{Row, row_of, row_failed, with_faults, marked, sink_at, path_at, IsRowOf, asked, is_failed, failed_count, MarksRow, AddsRows, AddsAllRows}
 use Rattle.wc_io.specs.Causes.{Rose}
+use Rattle.wc_io.specs.Reading.{AddsReadRow}
+use Rattle.wc_io.specs.declared.whole.ReadWhole.{ReadWhole}
+use Rattle.wc_io.specs.declared.whole.ReadWhole.TheVariants.{Long, Failed, Memory}
 use Rattle.wc_io.specs.declared.opened.OpenedRow.{OpenedRow}
 
 pub marked_set : (rows : List OpenedRow) (i faults : ℕ) (d new : OpenedRow)
@@ -56,6 +60,17 @@ returned_row rows opened new path sink place faults is last marks =
 -- a count that rose from none is above none
 pub rose_above : (before now : ℕ) → before ≡ 0 → Rose before now → nat_lt 0 now ≡ true
 rose_above before now none rose = let some : 0 < now = omega arith in lt-ltb 0 now some
+
+-- what reading a file leaves, once its source came back
+pub read_row : {T : Type 0} (path : List ℕ) (result : Result T ReadWhole) (rows opened new : List Row) (place before faults : ℕ)
+    → opened ≡ rows ++ row_failed path false false ∷ [] → place ≡ length opened → MarksRow place faults opened new
+    → before ≡ 0 → (IsErrOf result Failed → Rose before faults) → AddsReadRow path result rows new
+read_row path (Ok v) rows opened new place before faults is last marks none rose = (nat_lt 0 faults, returned_row rows opened new path false place faults is last marks)
+read_row path (Err Long) rows opened new place before faults is last marks none rose = (nat_lt 0 faults, returned_row rows opened new path false place faults is last marks)
+read_row path (Err Failed) rows opened new place before faults is last marks none rose =
+    returned_row rows opened new path false place faults is last marks
+    ∙ ap (λ (failed : Bool). rows ++ row_failed path false failed ∷ []) (rose_above before faults none (rose refl))
+read_row path (Err (Memory e)) rows opened new place before faults is last marks none rose = inr (nat_lt 0 faults, returned_row rows opened new path false place faults is last marks)
 
 -- marks behind the first rows leave those
 pub marked_behind : (xs ys : List Row) (i faults : ℕ) → marked (length xs + i) faults (xs ++ ys) ≡ xs ++ marked i faults ys

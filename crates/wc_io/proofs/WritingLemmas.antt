@@ -6,7 +6,9 @@ use Rattle.std.proofs.lemmas.Grind.{common_steps, flat_map-append}
 use Rattle.std.proofs.lemmas.List.Concat.{flat_map-cons}
 use Rattle.std.proofs.KnownBytes.{Appends-trans}
 use Rattle.std.specs.Io.KnownBytes.{Appends}
-use Rattle.wc_io.specs.Writing.{AppendsPart, Writes}
+use Rattle.wc_io.specs.Causes.{HasCause}
+use Rattle.wc_io.specs.Writing.{AppendsPart, Writes, WritesTo}
+use Rattle.wc_io.specs.declared.streams.Sink.{Ghosts}
 
 -- the text from an index on, as a range of a slice
 pub rest_whole : (text : List ℕ) (done : ℕ) → take (length text - done) (drop done text) ≡ drop done text
@@ -52,3 +54,36 @@ pub part_of_pieces : {X : Type 0} (a b c : Option (List ℕ)) (f : X → List �
 part_of_pieces a b c f xs i d within before part =
     subst (AppendsPart a c) (sym (flat_map_around f xs i d within))
     (part_longer a c (flat_map f (take i xs) ++ f (get_or xs i d)) (flat_map f (drop (suc i) xs)) (part_after a b c _ _ before part))
+
+-- ---- the whole record of a call
+
+causes_after : {E F : Type 0} (a b c : ℕ) (u : Unit {0}) (result : Result (Unit {0}) E) → HasCause {E = F} a b (Ok u) → HasCause b c result → HasCause a c result
+causes_after a b c u (Ok v) first next = record { later = omega (arith, first.later, next.later); failed = tt }
+causes_after a b c u (Err e) first next = record { later = omega (arith, first.later, next.later); failed = omega (arith, first.later, next.failed) }
+
+module _ {K : Type 0} (sink : Ghosts K) where
+  -- the rest after the front
+  pub WritesTo_after : {E F : Type 0} (a b c : K) (u : Unit {0}) (result : Result (Unit {0}) E) (front rest : List ℕ)
+      → WritesTo {E = F} sink a b (Ok u) front → WritesTo sink b c result rest → WritesTo sink a c result (front ++ rest)
+  WritesTo_after a b c u result front rest first next = record {
+    text = Writes_after (sink.held a) (sink.held b) (sink.held c) result front rest first.text next.text;
+    cause = causes_after (sink.faults a) (sink.faults b) (sink.faults c) u result first.cause next.cause;
+    place = next.place ∙ first.place;
+  }
+
+  -- no rest after a front that failed
+  pub WritesTo_stopped : {E F : Type 0} (a b : K) (d : F) (e : E) (front rest : List ℕ) → WritesTo sink a b (Err d) front → WritesTo sink a b (Err e) (front ++ rest)
+  WritesTo_stopped a b d e front rest first = record {
+    text = part_longer (sink.held a) (sink.held b) front rest first.text;
+    cause = record { later = first.cause.later; failed = first.cause.failed };
+    place = first.place;
+  }
+
+  -- a piece that failed behind the texts of those before it
+  pub WritesTo_pieces : {E F X : Type 0} (a b c : K) (u : Unit {0}) (e e' : E) (f : X → List ℕ) (xs : List X) (i : ℕ) (d : X) → i < length xs
+      → WritesTo {E = F} sink a b (Ok u) (flat_map f (take i xs)) → WritesTo sink b c (Err e) (f (get_or xs i d)) → WritesTo sink a c (Err e') (flat_map f xs)
+  WritesTo_pieces a b c u e e' f xs i d within before part = record {
+    text = part_of_pieces (sink.held a) (sink.held b) (sink.held c) f xs i d within before.text part.text;
+    cause = record { later = omega (arith, before.cause.later, part.cause.later); failed = omega (arith, before.cause.later, part.cause.failed) };
+    place = part.place ∙ before.place;
+  }

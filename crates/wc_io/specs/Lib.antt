@@ -1,8 +1,9 @@
 pub mod Ahead
 pub mod Causes
-pub mod Feeds
+pub mod Leaving
 pub mod Lines
 pub mod Memory
+pub mod MemoryHouses
 pub mod Parts
 pub mod Reading
 pub mod Rows

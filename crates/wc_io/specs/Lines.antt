@@ -1,5 +1,5 @@
 -- The lines of a script, as a list that doesn't depend on how reads cut its bytes.
-use Rattle.std.specs.Prelude.{◌≡◌, ℕ, ◌+◌, ◌≤◌, ◌==◌, nat_le, nat_lt, Bool, true, false, ◌||◌, if◌then◌else◌, List, [], ◌∷◌, length, Option, Some}
+use Rattle.std.specs.Prelude.{◌≡◌, ℕ, ◌+◌, ◌≤◌, ◌==◌, nat_le, nat_lt, Bool, true, false, ◌||◌, if◌then◌else◌, List, [], ◌∷◌, length, Option, Some, option_map}
 use Rattle.wc_io.specs.declared.script_lines.LineRead.{LineRead}
 use Rattle.wc_io.specs.declared.script_lines.LineRead.TheVariants as read
 
@@ -58,6 +58,10 @@ pub record Script : Type 0 where
   pub ended : Bool
   pub place : ℕ
   pub faults : ℕ
+
+-- a script of these bytes, where they are told, of which no line was read
+abbrev pub unread_script : Option (List ℕ) → ℕ → ℕ → Script
+unread_script bytes place faults = record { rest = option_map lines_of bytes; count = 0; line = []; ended = false; place = place; faults = faults }
 
 -- a call gives the first result to come, or the end where there is none
 abbrev pub Gives : LineRead → List LineResult → Script → Type 0

@@ -16,6 +16,10 @@ row_failed path sink failed = record { path = path; sink = sink; failed = failed
 abbrev pub row_of : OpenedRow → Row
 row_of r = record { path = string_bytes r.path; sink = r.sink; failed = r.failed }
 
+-- a row more, which failed
+abbrev pub AddsFailed : Row → List Row → List Row → Type 0
+AddsFailed row old new = new ≡ old ++ record row { failed = true } ∷ []
+
 -- a call that opens a path adds its row, failed exactly where it answers `Failed`, and none for want of memory
 abbrev pub AddsRow : {T : Type 0} → List ℕ → Bool → List Row → List Row → Result T HouseError → Type 0
 AddsRow path sink old new (Ok _) = new ≡ old ++ row_failed path sink false ∷ []
@@ -43,6 +47,14 @@ abbrev pub path_at : ℕ → List Row → List ℕ
 path_at i [] = []
 path_at zero (r ∷ rs) = r.path
 path_at (suc i) (r ∷ rs) = path_at i rs
+
+-- the source or sink of that place came back with so many faults
+abbrev pub MarksRow : ℕ → ℕ → List Row → List Row → Type 0
+MarksRow place faults old new = new ≡ marked (place - 1) faults old
+
+-- the path of the row of that place
+abbrev pub path_of : ℕ → List Row → List ℕ
+path_of place rows = path_at (place - 1) rows
 
 -- a place is the number of a row, from 1
 abbrev pub IsRowOf : ℕ → Bool → List Row → Type 0

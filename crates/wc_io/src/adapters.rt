@@ -1,14 +1,16 @@
-ghost use Rattle.std.specs.Prelude.{◌≡◌, List, [], map, None, false};
+ghost use Rattle.std.specs.Prelude.{◌≡◌, ◌<◌, ◌≤◌, [], map, length, None, false, IfOk};
+ghost use Rattle.std.specs.Io.KnownBytes.{ReadConsumes, WriteAppends};
+ghost use Rattle.wc_io.specs.Causes.{Counts, HasCause, IsWithin};
 ghost use Rattle.wc_io.specs.Rows.{row_of};
 
-use crate::opened::{mark_row, prepare_row};
-use crate::{Failed, House, HouseError, OpenedRow, Sink, Source};
+use crate::opened::{mark_row, prepare_row, refuse_row};
+use crate::{Failed, House, HouseError, OpenedRow, Sink, Source, SystemFile};
 use std::alloc::Global;
 use std::fs;
 use std::io::{Read, Write};
 use std::rt::Files;
 
-/// A source over a reader of std, of which it tells no content.
+/// A source over a reader of std, which tells what its reader tells.
 #[derive(Drop)]
 pub struct FileSource<F: Read> {
     pub place: u64,
@@ -32,13 +34,19 @@ impl<F: Read> FileSource<F> {
 }
 
 impl<F: Read> Source for FileSource<F> {
-    ghost left = { λ _. None };
+    ghost left = { λ s. F.remaining s.reader };
 
     ghost place = { λ s. s.place };
 
     ghost faults = { λ s. s.faults };
 
-    fn read(&mut self, buffer: &mut [u8]) -> Result<usize, Failed> {
+    fn read(&mut self, buffer: &mut [u8]) -> Result<usize, Failed>
+        ensures bound { IfOk result (λ n. n ≤ length buffer.new) }
+        ensures bytes { ReadConsumes (F.remaining self.old.reader) (F.remaining self.new.reader) result buffer.new }
+        ensures cause { HasCause self.old.faults self.new.faults result }
+        ensures place { self.new.place ≡ self.old.place }
+        ensures counts { Counts self.old.faults self.new.faults result }
+    {
         match self.reader.read(buffer) {
             Ok(count) => Ok(count),
             Err(_) => {
@@ -49,7 +57,7 @@ impl<F: Read> Source for FileSource<F> {
     }
 }
 
-/// A sink over a writer of std, of which it tells no content.
+/// A sink over a writer of std, which tells what its writer tells.
 #[derive(Drop)]
 pub struct FileSink<F: Write> {
     pub place: u64,
@@ -73,13 +81,20 @@ impl<F: Write> FileSink<F> {
 }
 
 impl<F: Write> Sink for FileSink<F> {
-    ghost held = { λ _. None };
+    ghost held = { λ k. F.contents k.writer };
 
     ghost place = { λ k. k.place };
 
     ghost faults = { λ k. k.faults };
 
-    fn write(&mut self, piece: &[u8]) -> Result<usize, Failed> {
+    fn write(&mut self, piece: &[u8]) -> Result<usize, Failed>
+        requires { 0 < length piece.now }
+        ensures bound { IfOk result (IsWithin (length piece.now)) }
+        ensures bytes { WriteAppends (F.contents self.old.writer) (F.contents self.new.writer) result piece.now }
+        ensures cause { HasCause self.old.faults self.new.faults result }
+        ensures place { self.new.place ≡ self.old.place }
+        ensures counts { Counts self.old.faults self.new.faults result }
+    {
         match self.writer.write(piece) {
             Ok(count) if count > 0 => Ok(count),
             _ => {
@@ -112,9 +127,9 @@ impl<R: Files> House for FileHouse<R>
 where
     R::File: Send,
 {
-    type Source = FileSource<R::File>;
+    type Source = FileSource<SystemFile<R::File>>;
 
-    type Sink = FileSink<R::File>;
+    type Sink = FileSink<SystemFile<R::File>>;
 
     ghost opened = { λ h. map row_of h.opened.items };
 
@@ -122,49 +137,47 @@ where
 
     ghost file = { λ _ _. None };
 
-    fn source(&mut self, path: &str) -> Result<FileSource<R::File>, HouseError> {
-        let mut row = prepare_row(&mut self.opened, path, false).map_err(HouseError::Memory)?;
+    fn source(&mut self, path: &str) -> Result<FileSource<SystemFile<R::File>>, HouseError> {
+        let row = prepare_row(&mut self.opened, path, false).map_err(HouseError::Memory)?;
         match fs::open(&self.files, path) {
-            Ok(reader) => {
+            Ok(file) => {
                 let _ = self.opened.push(row);
                 Ok(FileSource {
                     place: self.opened.len() as u64,
                     faults: 0,
-                    reader,
+                    reader: SystemFile { file },
                 })
             }
             Err(_) => {
-                row.failed = true;
-                let _ = self.opened.push(row);
+                refuse_row(&mut self.opened, row);
                 Err(HouseError::Failed)
             }
         }
     }
 
-    fn sink(&mut self, path: &str) -> Result<FileSink<R::File>, HouseError> {
-        let mut row = prepare_row(&mut self.opened, path, true).map_err(HouseError::Memory)?;
+    fn sink(&mut self, path: &str) -> Result<FileSink<SystemFile<R::File>>, HouseError> {
+        let row = prepare_row(&mut self.opened, path, true).map_err(HouseError::Memory)?;
         match fs::create(&self.files, path) {
-            Ok(writer) => {
+            Ok(file) => {
                 let _ = self.opened.push(row);
                 Ok(FileSink {
                     place: self.opened.len() as u64,
                     faults: 0,
-                    writer,
+                    writer: SystemFile { file },
                 })
             }
             Err(_) => {
-                row.failed = true;
-                let _ = self.opened.push(row);
+                refuse_row(&mut self.opened, row);
                 Err(HouseError::Failed)
             }
         }
     }
 
-    fn return_source(&mut self, source: FileSource<R::File>) {
+    fn return_source(&mut self, source: FileSource<SystemFile<R::File>>) {
         mark_row(&mut self.opened, source.place, source.faults);
     }
 
-    fn return_sink(&mut self, sink: FileSink<R::File>) {
+    fn return_sink(&mut self, sink: FileSink<SystemFile<R::File>>) {
         mark_row(&mut self.opened, sink.place, sink.faults);
     }
 }

@@ -1,8 +1,7 @@
 ghost use Rattle.std.specs.Prelude.{◌≡◌, ◌++◌};
 ghost use Rattle.wc_base.specs.FaultTexts.{fault_text, field_text, file_text, unbuilt_text};
-ghost use Rattle.wc_io.specs.Causes.{HasCause};
 ghost use Rattle.wc_io.specs.Tails.{tail_text};
-ghost use Rattle.wc_io.specs.Writing.{Writes};
+ghost use Rattle.wc_io.specs.Writing.{WritesTo};
 
 use crate::texts::{address, write_decimal};
 use crate::{Failed, Sink, write_whole};
@@ -100,9 +99,7 @@ fn parts(fault: &Fault) -> (&'static str, Tail)
 }
 
 fn write_tail<K: Sink>(sink: &mut K, tail: Tail) -> Result<(), Failed>
-    ensures text { Writes (K.held sink.old) (K.held sink.new) result (tail_text tail) }
-    ensures cause { HasCause (K.faults sink.old) (K.faults sink.new) result }
-    ensures place { K.place sink.new ≡ K.place sink.old }
+    ensures { WritesTo K.Sink sink.old sink.new result (tail_text tail) }
 {
     match tail {
         Tail::Nothing => write_whole(sink, b""),
@@ -114,9 +111,7 @@ fn write_tail<K: Sink>(sink: &mut K, tail: Tail) -> Result<(), Failed>
 
 /// Appends the text of a fault. After `Failed` a shorter prefix of it was appended.
 pub fn write_fault<K: Sink>(sink: &mut K, fault: &Fault) -> Result<(), Failed>
-    ensures text { Writes (K.held sink.old) (K.held sink.new) result (fault_text fault.now) }
-    ensures cause { HasCause (K.faults sink.old) (K.faults sink.new) result }
-    ensures place { K.place sink.new ≡ K.place sink.old }
+    ensures { WritesTo K.Sink sink.old sink.new result (fault_text fault.now) }
 {
     let (head, tail) = parts(fault);
     match write_whole(sink, head.as_bytes()) {

@@ -1,20 +1,10 @@
-ghost use Rattle.std.specs.Prelude.{◌≡◌, ℕ, ◌<◌, ◌≤◌, List, length, IfOk, OnOk, IfSome, IsSome, IsErrOf, IsTrue};
+ghost use Rattle.std.specs.Prelude.{◌≡◌, ◌<◌, ◌≤◌, length, IfOk, OnOk, IfSome, IsErrOf};
+ghost use Rattle.wc_io.specs.Leaving.{Leaves, NoPath};
 ghost use Rattle.wc_io.specs.Reading.{AddsReadRow};
+ghost use Rattle.wc_io.specs.Telling.{IsThere};
 
 use crate::{House, HouseError, ReadWhole, read_whole};
-use std::alloc::{AllocError, Global};
-use thiserror::Error;
-
-/// Why a file wasn't read.
-#[derive(Clone, Copy, Debug, PartialEq, Eq, Error)]
-pub enum ReadFile {
-    #[error("the file is too long")]
-    Long,
-    #[error("the file can't be read")]
-    Failed,
-    #[error("out of memory")]
-    Memory(AllocError),
-}
+use std::alloc::Global;
 
 /// The bytes of the file of a path, of which there are at most `most`. The house's list gains the path as a source,
 /// or nothing where the house had no memory to open it. Of a house that tells its files nothing is read, and nothing
@@ -24,27 +14,20 @@ pub fn read_file<H: House>(
     house: &mut H,
     path: &str,
     most: usize,
-) -> Result<Vec<u8>, ReadFile>
+) -> Result<Vec<u8>, ReadWhole>
     ensures bytes { IfOk result (λ v. IfSome (H.file house.old path.now) (λ all. v.items ≡ all)) }
     ensures short { IfOk result (λ v. length v.items ≤ most) }
-    ensures long { IsErrOf result ReadFile.Long → IfSome (H.file house.old path.now) (λ all. most < length all) }
-    ensures there { OnOk result (IsTrue (H.tells house.old) → IsSome (H.file house.old path.now)) }
-    ensures long_there { IsErrOf result ReadFile.Long → IsTrue (H.tells house.old) → IsSome (H.file house.old path.now) }
-    ensures row { AddsReadRow path.now (H.opened house.old) (H.opened house.new) result }
-    ensures files { (p : List ℕ) → H.file house.new p ≡ H.file house.old p }
-    ensures tells { H.tells house.new ≡ H.tells house.old }
+    ensures there { OnOk result (IsThere (H.tells house.old) (H.file house.old path.now)) }
+    ensures long { IsErrOf result ReadWhole.Long → IfSome (H.file house.old path.now) (λ all. most < length all) }
+    ensures long_there { IsErrOf result ReadWhole.Long → IsThere (H.tells house.old) (H.file house.old path.now) }
+    ensures house { Leaves H.House (AddsReadRow path.now result) NoPath house.old house.new }
 {
     let mut source = match house.source(path) {
         Ok(source) => source,
-        Err(HouseError::Failed) => return Err(ReadFile::Failed),
-        Err(HouseError::Memory(error)) => return Err(ReadFile::Memory(error)),
+        Err(HouseError::Failed) => return Err(ReadWhole::Failed),
+        Err(HouseError::Memory(error)) => return Err(ReadWhole::Memory(error)),
     };
     let bytes = read_whole(alloc, &mut source, most);
     house.return_source(source);
-    match bytes {
-        Ok(bytes) => Ok(bytes),
-        Err(ReadWhole::Long) => Err(ReadFile::Long),
-        Err(ReadWhole::Failed) => Err(ReadFile::Failed),
-        Err(ReadWhole::Memory(error)) => Err(ReadFile::Memory(error)),
-    }
+    bytes
 }

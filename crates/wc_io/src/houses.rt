@@ -1,6 +1,6 @@
-ghost use Rattle.std.specs.Prelude.{◌≡◌, ◌≢◌, ℕ, ◌-◌, Bool, List, [], Option, Some, length, IfOk, OnOk, OnErr, IfSome, IsSome, IsTrue, true, false};
-ghost use Rattle.wc_io.specs.Rows.{Row, AddsRow, IsRowOf, marked, path_at};
-ghost use Rattle.wc_io.specs.Telling.{TellsFile};
+ghost use Rattle.std.specs.Prelude.{◌≡◌, ℕ, Bool, List, [], Option, length, IfOk, OnOk, OnErr, IfSome, true, false};
+ghost use Rattle.wc_io.specs.Rows.{Row, AddsRow, IsRowOf, MarksRow, path_of};
+ghost use Rattle.wc_io.specs.Telling.{IsThere, Gives, IsEmptied, IsFilled, KeepsOthers, Brings, ComesBack};
 
 use crate::{Sink, Source};
 use std::alloc::AllocError;
@@ -30,15 +30,20 @@ pub trait House {
     /// The bytes of the file of a path, where they are told.
     ghost file: { Self → List ℕ → Option (List ℕ) };
 
+    /// Whether these are the places of the sources and sinks that are out, the newest first. A house that doesn't know
+    /// may call each list right: code for any house can't tell which ones do, so it gives back what it opened.
+    ghost are_out: { Self → List ℕ → Type 0 } = { λ _ _. Unit {0} };
+
     /// Opens a path for reading.
     fn source(&mut self, path: &str) -> Result<Self::Source, HouseError>
         ensures row { AddsRow path.now false (opened self.old) (opened self.new) result }
         ensures place { IfOk result (λ s. Self.Source.place s ≡ length (opened self.new)) }
         ensures fresh { IfOk result (λ s. Self.Source.faults s ≡ 0) }
-        ensures there { OnOk result (IsTrue (tells self.old) → IsSome (file self.old path.now)) }
-        ensures bytes { IfOk result (λ s. IfSome (file self.old path.now) (λ bytes. Self.Source.left s ≡ Some bytes)) }
+        ensures there { OnOk result (IsThere (tells self.old) (file self.old path.now)) }
+        ensures bytes { IfOk result (λ s. Gives (file self.old path.now) (Self.Source.left s)) }
         ensures files { (p : List ℕ) → file self.new p ≡ file self.old p }
-        ensures tells { tells self.new ≡ tells self.old };
+        ensures tells { tells self.new ≡ tells self.old }
+        ensures out { Brings Self.Source.place result (are_out self.old) (are_out self.new) };
 
     /// Opens a path for writing: its file is empty from then on, and made where there was none.
     fn sink(&mut self, path: &str) -> Result<Self::Sink, HouseError>
@@ -46,26 +51,29 @@ pub trait House {
         ensures place { IfOk result (λ s. Self.Sink.place s ≡ length (opened self.new)) }
         ensures fresh { IfOk result (λ s. Self.Sink.faults s ≡ 0) }
         ensures empty { IfOk result (λ s. IfSome (Self.Sink.held s) (λ bytes. bytes ≡ [])) }
-        ensures held { IfOk result (λ s. TellsFile (tells self.old) (file self.old path.now) → Self.Sink.held s ≡ Some []) }
-        ensures emptied { OnOk result (TellsFile (tells self.old) (file self.old path.now) → file self.new path.now ≡ Some []) }
+        ensures held { IfOk result (λ s. IsEmptied (tells self.old) (file self.old path.now) (Self.Sink.held s)) }
+        ensures emptied { OnOk result (IsEmptied (tells self.old) (file self.old path.now) (file self.new path.now)) }
         ensures kept { OnErr result ((p : List ℕ) → file self.new p ≡ file self.old p) }
-        ensures others { (p : List ℕ) → p ≢ path.now → file self.new p ≡ file self.old p }
-        ensures tells { tells self.new ≡ tells self.old };
+        ensures others { KeepsOthers path.now (file self.old) (file self.new) }
+        ensures tells { tells self.new ≡ tells self.old }
+        ensures out { Brings Self.Sink.place result (are_out self.old) (are_out self.new) };
 
     /// Takes a source back. Its row is failed from then on where the source counted a fault.
     fn return_source(&mut self, source: Self::Source)
         requires { IsRowOf (Self.Source.place source) false (opened self.old) }
-        ensures rows { opened self.new ≡ marked (Self.Source.place source - 1) (Self.Source.faults source) (opened self.old) }
+        ensures rows { MarksRow (Self.Source.place source) (Self.Source.faults source) (opened self.old) (opened self.new) }
         ensures files { (p : List ℕ) → file self.new p ≡ file self.old p }
-        ensures tells { tells self.new ≡ tells self.old };
+        ensures tells { tells self.new ≡ tells self.old }
+        ensures out { ComesBack (Self.Source.place source) (are_out self.old) (are_out self.new) };
 
     /// Takes a sink back: the file of its path is what the sink holds. Its row is failed from then on where the
     /// sink counted a fault.
     fn return_sink(&mut self, sink: Self::Sink)
         requires { IsRowOf (Self.Sink.place sink) true (opened self.old) }
-        ensures rows { opened self.new ≡ marked (Self.Sink.place sink - 1) (Self.Sink.faults sink) (opened self.old) }
-        ensures file { IfSome (file self.old (path_at (Self.Sink.place sink - 1) (opened self.old)))
-            (λ _. IfSome (Self.Sink.held sink) (λ bytes. file self.new (path_at (Self.Sink.place sink - 1) (opened self.old)) ≡ Some bytes)) }
-        ensures others { (p : List ℕ) → p ≢ path_at (Self.Sink.place sink - 1) (opened self.old) → file self.new p ≡ file self.old p }
-        ensures tells { tells self.new ≡ tells self.old };
+        ensures rows { MarksRow (Self.Sink.place sink) (Self.Sink.faults sink) (opened self.old) (opened self.new) }
+        ensures file { IsFilled (file self.old (path_of (Self.Sink.place sink) (opened self.old)))
+            (Self.Sink.held sink) (file self.new (path_of (Self.Sink.place sink) (opened self.old))) }
+        ensures others { KeepsOthers (path_of (Self.Sink.place sink) (opened self.old)) (file self.old) (file self.new) }
+        ensures tells { tells self.new ≡ tells self.old }
+        ensures out { ComesBack (Self.Sink.place sink) (are_out self.old) (are_out self.new) };
 }

@@ -15,13 +15,14 @@ mod script_lines;
 #[cfg(test)]
 mod script_tests;
 mod streams;
+mod system_files;
 #[cfg(test)]
 mod tests;
 mod texts;
 mod whole;
 
 pub use adapters::{FileHouse, FileSink, FileSource};
-pub use file_reading::{ReadFile, read_file};
+pub use file_reading::read_file;
 pub use houses::{House, HouseError};
 pub use memory::{MemorySink, MemorySource};
 pub use memory_files::MemoryFile;
@@ -29,5 +30,6 @@ pub use memory_house::MemoryHouse;
 pub use opened::OpenedRow;
 pub use script_lines::{LineRead, Lines};
 pub use streams::{Failed, Sink, Source};
+pub use system_files::SystemFile;
 pub use texts::{Piece, write_pieces};
 pub use whole::{ReadWhole, read_whole, write_whole};

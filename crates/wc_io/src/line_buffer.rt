@@ -1,6 +1,6 @@
-ghost use Rattle.std.specs.Prelude.{◌≡◌, ◌++◌, ◌-◌, ◌+◌, ◌<◌, ◌≤◌, ◌^◌, List, [], length, take, IfOk, MatchOption};
-ghost use Rattle.std.specs.Prelude.{vec_capacity};
-ghost use Rattle.wc_io.specs.Feeds.{IsFirstFeed, NoFeed};
+ghost use Rattle.std.specs.Prelude.{◌≡◌, ◌++◌, ◌-◌, ◌+◌, ◌<◌, ◌≤◌, ◌^◌, List, [], length, take, IfOk, IfSome};
+ghost use Rattle.std.specs.Prelude.{vec_capacity, ◌==◌};
+ghost use Rattle.std.specs.List.{position_from};
 ghost use Rattle.wc_io.specs.Lines.{without_return};
 ghost use Rattle.wc_io.specs.Parts.{IsGiven};
 
@@ -37,19 +37,16 @@ impl Model for LineBuffer {
 
     ghost view = { λ b. record { line = b.line.items; part = b.part.items; count = b.count } };
 
-    ghost invariant = { λ b. (4097 ≤ vec_capacity b.line) × (4097 ≤ vec_capacity b.part) × (vec_len b.part ≤ 4097) };
+    ghost invariant = { λ b. (4097 ≤ vec_capacity b.line) × (4097 ≤ vec_capacity b.part)
+        × (vec_len b.part ≤ 4097) };
 }
 
 /// The index of the first LF.
 pub fn find_feed(bytes: &[u8]) -> Option<usize>
-    ensures { MatchOption result (NoFeed bytes.now) (IsFirstFeed bytes.now) }
+    ensures first { result ≡ position_from (λ byte. byte == 10) 0 bytes.now }
+    ensures within { IfSome result (λ i. i < length bytes.now) }
 {
-    for (i, byte) in bytes.iter().enumerate() {
-        if *byte == b'\n' {
-            return Some(i);
-        }
-    }
-    None
+    bytes.iter().position(|byte| *byte == b'\n')
 }
 
 /// Drops a CR at the end.

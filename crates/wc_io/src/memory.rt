@@ -1,6 +1,10 @@
-ghost use Rattle.std.specs.Prelude.{Some};
+ghost use Rattle.std.specs.Prelude.{◌≡◌, ◌<◌, ◌≤◌, length, IfOk, Some};
+ghost use Rattle.std.specs.Io.KnownBytes.{ReadConsumes, WriteAppends};
+ghost use Rattle.wc_io.specs.Causes.{HasCause, IsWithin};
+ghost use Rattle.wc_io.specs.Memory.{IsEmptySink, ReadsMemory, WritesMemory};
 
 use crate::{Failed, Sink, Source};
+use std::alloc::Global;
 
 /// Bytes in memory, read from the front. The calls of `read` whose numbers, from 1, stand in `failing` fail.
 #[derive(Debug, Drop)]
@@ -21,7 +25,13 @@ impl Source for MemorySource {
 
     ghost faults = { λ s. s.faults };
 
-    fn read(&mut self, buffer: &mut [u8]) -> Result<usize, Failed> {
+    fn read(&mut self, buffer: &mut [u8]) -> Result<usize, Failed>
+        ensures bound { IfOk result (λ n. n ≤ length buffer.new) }
+        ensures bytes { ReadConsumes (Some self.old.left.items) (Some self.new.left.items) result buffer.new }
+        ensures cause { HasCause self.old.faults self.new.faults result }
+        ensures place { self.new.place ≡ self.old.place }
+        ensures memory { ReadsMemory self.old self.new (length buffer.new) result }
+    {
         self.calls = self.calls.saturating_add(1);
         if self.failing.contains(&self.calls) {
             self.faults = self.faults.saturating_add(1);
@@ -50,6 +60,22 @@ pub struct MemorySink {
     pub faults: u64,
 }
 
+impl MemorySink {
+    /// An empty sink outside of any house, of which no call is set to fail.
+    pub fn new(alloc: Global) -> Self
+        ensures { IsEmptySink result }
+    {
+        MemorySink {
+            place: 0,
+            path: String::new(alloc),
+            held: Vec::new(alloc),
+            calls: 0,
+            failing: Vec::new(alloc),
+            faults: 0,
+        }
+    }
+}
+
 impl Sink for MemorySink {
     ghost held = { λ k. Some k.held.items };
 
@@ -58,7 +84,14 @@ impl Sink for MemorySink {
     ghost faults = { λ k. k.faults };
 
     /// Counts a want of memory as a fault of its own.
-    fn write(&mut self, piece: &[u8]) -> Result<usize, Failed> {
+    fn write(&mut self, piece: &[u8]) -> Result<usize, Failed>
+        requires { 0 < length piece.now }
+        ensures bound { IfOk result (IsWithin (length piece.now)) }
+        ensures bytes { WriteAppends (Some self.old.held.items) (Some self.new.held.items) result piece.now }
+        ensures cause { HasCause self.old.faults self.new.faults result }
+        ensures place { self.new.place ≡ self.old.place }
+        ensures memory { WritesMemory self.old self.new (length piece.now) result }
+    {
         self.calls = self.calls.saturating_add(1);
         if self.failing.contains(&self.calls) || self.held.extend_from_slice(piece).is_err() {
             self.faults = self.faults.saturating_add(1);

@@ -1,5 +1,6 @@
-ghost use Rattle.std.specs.Prelude.{◌≡◌, ◌≢◌, ℕ, List, [], None, Some, IfOk, OnOk, OnErr, OnSome, IfNone, MatchOption, IfSome};
-ghost use Rattle.wc_io.specs.Memory.{file_at, index_from};
+ghost use Rattle.std.specs.Prelude.{◌≡◌, [], map, IfOk, OnOk, OnErr, MatchOption, None, Some};
+ghost use Rattle.std.specs.List.{find, position_from};
+ghost use Rattle.wc_io.specs.Memory.{emptied, failing_at, filled, is_at, seen};
 
 use std::alloc::{AllocError, Global};
 
@@ -13,12 +14,20 @@ pub struct MemoryFile {
 }
 
 /// The number of the first file of that path.
-pub fn index_of(files: &[MemoryFile], path: &str) -> Option<usize>
-    ensures { result ≡ index_from 0 path.now files.now }
+fn index_of(files: &[MemoryFile], path: &str) -> Option<usize>
+    ensures { result ≡ position_from (λ f. is_at path.now (seen f)) 0 files.now }
 {
-    for (i, file) in files.iter().enumerate() {
+    files.iter().position(|file| file.path.as_str() == path)
+}
+
+/// The first file of that path.
+pub fn find_file<'a>(files: &'a [MemoryFile], path: &str) -> Option<&'a MemoryFile>
+    ensures { MatchOption result (find (is_at path.now) (map seen files.now) ≡ None)
+        (λ f. find (is_at path.now) (map seen files.now) ≡ Some (seen f.now)) }
+{
+    for file in files {
         if file.path.as_str() == path {
-            return Some(i);
+            return Some(file);
         }
     }
     None
@@ -30,13 +39,13 @@ pub fn empty_file(
     files: &mut Vec<MemoryFile>,
     path: &str,
 ) -> Result<Vec<u64>, AllocError>
-    ensures emptied { OnOk result (file_at files.new.items path.now ≡ Some []) }
-    ensures others { (p : List ℕ) → p ≢ path.now → file_at files.new.items p ≡ file_at files.old.items p }
+    ensures files { OnOk result (map seen files.new.items ≡ emptied path.now (map seen files.old.items)) }
+    ensures failing { IfOk result (λ v. v.items ≡ failing_at (map seen files.old.items) path.now) }
     ensures kept { OnErr result (files.new.items ≡ files.old.items) }
 {
     match index_of(files, path) {
         Some(i) => {
-            let failing = files[i].failing.clone()?;
+            let failing = files[i].failing.to_vec(alloc)?;
             files[i].bytes.clear();
             Ok(failing)
         }
@@ -55,8 +64,7 @@ pub fn empty_file(
 
 /// Gives the file of a path these bytes, where there is one.
 pub fn fill_file(files: &mut Vec<MemoryFile>, path: &str, bytes: Vec<u8>)
-    ensures filled { OnSome (file_at files.old.items path.now) (file_at files.new.items path.now ≡ Some bytes.items) }
-    ensures others { (p : List ℕ) → p ≢ path.now → file_at files.new.items p ≡ file_at files.old.items p }
+    ensures { map seen files.new.items ≡ filled path.now bytes.items (map seen files.old.items) }
 {
     if let Some(i) = index_of(files, path) {
         files[i].bytes = bytes;

@@ -1,5 +1,6 @@
-ghost use Rattle.std.specs.Prelude.{◌≡◌, ◌-◌, ◌<◌, map, false, IfOk, OnOk, vec_len, vec_capacity};
-ghost use Rattle.wc_io.specs.Rows.{marked, row_of, row_failed};
+ghost use Rattle.std.specs.Prelude.{◌≡◌, ◌-◌, ◌<◌, map, false, IfOk, OnOk};
+ghost use Rattle.std.specs.Prelude.{vec_len, vec_capacity};
+ghost use Rattle.wc_io.specs.Rows.{AddsFailed, marked, row_of, row_failed};
 
 use std::alloc::AllocError;
 
@@ -28,6 +29,15 @@ pub fn prepare_row(
         sink,
         failed: false,
     })
+}
+
+/// Adds the row as one that failed.
+pub fn refuse_row(rows: &mut Vec<OpenedRow>, mut row: OpenedRow)
+    requires { vec_len rows.old < vec_capacity rows.old }
+    ensures { AddsFailed (row_of row) (map row_of rows.old.items) (map row_of rows.new.items) }
+{
+    row.failed = true;
+    let _ = rows.push(row);
 }
 
 /// Marks the row at that place, from 1, as failed where there were faults.

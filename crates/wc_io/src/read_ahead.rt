@@ -1,6 +1,6 @@
 ghost use Rattle.std.specs.Prelude.{◌≡◌, ℕ, ◌≤◌, [], length, drop, IfOk, OnErr};
 ghost use Rattle.std.specs.Io.KnownBytes.{IsAtEnd, Keeps};
-ghost use Rattle.wc_io.specs.Ahead.{to_come};
+ghost use Rattle.wc_io.specs.Ahead.{to_come, unread_source};
 ghost use Rattle.wc_io.specs.Causes.{HasCause};
 
 use crate::{Failed, Source};
@@ -35,7 +35,7 @@ impl<S: Source> Model for ReadAhead<S> {
 
 impl<S: Source> ReadAhead<S> {
     pub fn new(source: S) -> Self
-        ensures { result ≡ record { unread = []; left = S.left source; place = S.place source; faults = S.faults source } }
+        ensures { result ≡ unread_source (S.left source) (S.place source) (S.faults source) }
     {
         ReadAhead {
             source,

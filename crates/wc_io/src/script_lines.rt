@@ -1,7 +1,7 @@
 ghost use Rattle.std.specs.Prelude.{◌≡◌, ◌+◌, ◌≤◌, [], false, not, if◌then◌else◌, IsFalse, MatchResult, IfSome, option_map};
 ghost use Rattle.wc_io.specs.Causes.{Rose};
 ghost use Rattle.wc_io.specs.Ahead.{to_come};
-ghost use Rattle.wc_io.specs.Lines.{Gives, IsLineAfter, goes_on, lines_of};
+ghost use Rattle.wc_io.specs.Lines.{Gives, IsLineAfter, goes_on, unread_script};
 ghost use Rattle.wc_io.specs.Parts.{Finds};
 
 use crate::line_buffer::{LineBuffer, PartEnd, find_feed};
@@ -102,7 +102,7 @@ impl<S: Source> Lines<S> {
     /// Takes all the room that reading takes.
     pub fn new(alloc: Global, source: S) -> Result<Lines<S>, (S, AllocError)>
         ensures { MatchResult result
-            (λ s. s ≡ record { rest = option_map lines_of (S.left source); count = 0; line = []; ended = false; place = S.place source; faults = S.faults source })
+            (λ s. s ≡ unread_script (S.left source) (S.place source) (S.faults source))
             (λ e. e.0 ≡ source) }
     {
         match LineBuffer::new(alloc) {

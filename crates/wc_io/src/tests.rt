@@ -1,7 +1,6 @@
 use crate::{
     Failed, FileHouse, House, HouseError, MemoryFile, MemoryHouse, MemorySink, MemorySource,
-    OpenedRow, Piece, ReadFile, ReadWhole, Sink, Source, read_file, read_whole, write_pieces,
-    write_whole,
+    OpenedRow, Piece, ReadWhole, Sink, Source, read_file, read_whole, write_pieces, write_whole,
 };
 use std::alloc::{AllocError, Global};
 use std::test::Fail;
@@ -28,14 +27,9 @@ pub fn source_of(
 }
 
 fn sink_of(alloc: Global, failing: &[u64]) -> Result<MemorySink, AllocError> {
-    Ok(MemorySink {
-        place: 0,
-        path: String::from_str(alloc, "out")?,
-        held: Vec::new(alloc),
-        calls: 0,
-        failing: Vec::from_slice(alloc, failing)?,
-        faults: 0,
-    })
+    let mut sink = MemorySink::new(alloc);
+    sink.failing.extend_from_slice(failing)?;
+    Ok(sink)
 }
 
 fn house_of(alloc: Global, failing: &[u64]) -> Result<MemoryHouse, AllocError> {
@@ -170,17 +164,17 @@ fn a_house_lists_what_it_opened(rt: HostRuntime) -> Result<(), Fail> {
     let mut house = house_of(rt.alloc(), &[3])?;
     assert_eq!(rt;
         read_file(rt.alloc(), &mut house, "none", 9).err(),
-        Some(ReadFile::Failed)
+        Some(ReadWhole::Failed)
     );
     let read = read_file(rt.alloc(), &mut house, "in", 9)?;
     assert_eq!(rt; read.as_slice(), b"seven".as_slice());
     assert_eq!(rt;
         read_file(rt.alloc(), &mut house, "in", 9).err(),
-        Some(ReadFile::Failed)
+        Some(ReadWhole::Failed)
     );
     assert_eq!(rt;
         read_file(rt.alloc(), &mut house, "in", 4).err(),
-        Some(ReadFile::Long)
+        Some(ReadWhole::Long)
     );
     let mut failed = [false; 4];
     assert_eq!(rt; house.opened.len(), 4);
@@ -215,14 +209,17 @@ fn a_returned_sink_is_the_file(rt: HostRuntime) -> Result<(), Fail> {
 #[test]
 fn files_are_written_and_read_back(rt: HostRuntime) -> Result<(), Fail> {
     let mut house = FileHouse::new(rt.alloc(), rt);
-    write_file(&mut house, "kept", "over std\n")?;
-    let read = read_file(rt.alloc(), &mut house, "kept", 100)?;
-    assert_eq!(rt; read.as_slice(), b"over std\n".as_slice());
+    write_file(&mut house, "kept", "a long text over std\n")?;
+    let long = read_file(rt.alloc(), &mut house, "kept", 100)?;
+    assert_eq!(rt; long.as_slice(), b"a long text over std\n".as_slice());
+    write_file(&mut house, "kept", "a short one\n")?;
+    let short = read_file(rt.alloc(), &mut house, "kept", 100)?;
+    assert_eq!(rt; short.as_slice(), b"a short one\n".as_slice());
     assert_eq!(rt;
         read_file(rt.alloc(), &mut house, "none", 100).err(),
-        Some(ReadFile::Failed)
+        Some(ReadWhole::Failed)
     );
-    assert_eq!(rt; house.opened.len(), 3);
+    assert_eq!(rt; house.opened.len(), 5);
     Ok(())
 }
 

@@ -1,8 +1,7 @@
 ghost use Rattle.std.specs.Prelude.{◌≡◌, ◌<◌, decimal, flat_map};
 ghost use Rattle.wc_base.specs.FaultTexts.{address, hex_digit};
-ghost use Rattle.wc_io.specs.Causes.{HasCause};
 ghost use Rattle.wc_io.specs.Texts.{text_of};
-ghost use Rattle.wc_io.specs.Writing.{Writes};
+ghost use Rattle.wc_io.specs.Writing.{WritesTo};
 
 use crate::fault_texts::write_fault;
 use crate::{Failed, Sink, write_whole};
@@ -50,18 +49,14 @@ pub fn address(at: u32) -> [u8; 10]
 
 /// Appends a decimal number. After `Failed` a shorter prefix of its digits was appended.
 pub fn write_decimal<K: Sink>(sink: &mut K, number: u128) -> Result<(), Failed>
-    ensures text { Writes (K.held sink.old) (K.held sink.new) result (decimal number) }
-    ensures cause { HasCause (K.faults sink.old) (K.faults sink.new) result }
-    ensures place { K.place sink.new ≡ K.place sink.old }
+    ensures { WritesTo K.Sink sink.old sink.new result (decimal number) }
 {
     let mut digits = Buffer::new();
     write_whole(sink, digits.format(number).as_bytes())
 }
 
 fn write_piece<K: Sink>(sink: &mut K, piece: &Piece) -> Result<(), Failed>
-    ensures text { Writes (K.held sink.old) (K.held sink.new) result (text_of piece.now) }
-    ensures cause { HasCause (K.faults sink.old) (K.faults sink.new) result }
-    ensures place { K.place sink.new ≡ K.place sink.old }
+    ensures { WritesTo K.Sink sink.old sink.new result (text_of piece.now) }
 {
     match piece {
         Piece::Bytes(bytes) => write_whole(sink, bytes),
@@ -73,9 +68,7 @@ fn write_piece<K: Sink>(sink: &mut K, piece: &Piece) -> Result<(), Failed>
 
 /// Appends a text given in pieces. After `Failed` a prefix of it was appended, which is shorter than the text.
 pub fn write_pieces<K: Sink>(sink: &mut K, pieces: &[Piece]) -> Result<(), Failed>
-    ensures text { Writes (K.held sink.old) (K.held sink.new) result (flat_map text_of pieces.now) }
-    ensures cause { HasCause (K.faults sink.old) (K.faults sink.new) result }
-    ensures place { K.place sink.new ≡ K.place sink.old }
+    ensures { WritesTo K.Sink sink.old sink.new result (flat_map text_of pieces.now) }
 {
     for piece in pieces {
         match write_piece(sink, piece) {

@@ -1,6 +1,6 @@
 ghost use Rattle.std.specs.Prelude.{◌≡◌, ◌<◌, ◌≤◌, length, IfOk, IfSome, IsErrOf};
 ghost use Rattle.wc_io.specs.Causes.{Rose, HasCause};
-ghost use Rattle.wc_io.specs.Writing.{Writes};
+ghost use Rattle.wc_io.specs.Writing.{WritesTo};
 
 use crate::{Failed, Sink, Source};
 use std::alloc::{AllocError, Global};
@@ -54,9 +54,7 @@ pub fn read_whole<S: Source>(
 
 /// Appends the whole text. After `Failed` a prefix of it was appended, which is shorter than the text.
 pub fn write_whole<K: Sink>(sink: &mut K, text: &[u8]) -> Result<(), Failed>
-    ensures text { Writes (K.held sink.old) (K.held sink.new) result text.now }
-    ensures cause { HasCause (K.faults sink.old) (K.faults sink.new) result }
-    ensures place { K.place sink.new ≡ K.place sink.old }
+    ensures { WritesTo K.Sink sink.old sink.new result text.now }
 {
     let mut done = 0;
     while done < text.len() {

@@ -7,7 +7,8 @@ use Rattle.std.proofs.lemmas.List.Elements.{Contains-push, Contains-push_cases, 
 use Rattle.std.proofs.lemmas.Option.{none-some, same_Some}
 use Rattle.wc_model.specs.declared.flow_system.SystemStep.{SystemStep}
 use Rattle.wc_model.specs.Inner.Greatest.{cost_ahead, cost_through, option_max, IsGreatestOf}
-use Rattle.wc_model.specs.Flow.Walks.{AreStepsOf, IsWalk, walk_cost, IsOrdered, IsBest}
+use Rattle.wc_model.specs.Flow.Ends.{system_ends}
+use Rattle.wc_model.specs.Flow.Walks.{AreStepsOf, Joins, IsWalk, walk_cost, IsOrdered, IsBest}
 
 -- one more element
 pub greatest_push : {X : Type 0} (f : X → Option ℕ) (xs : List X) (x : X) (g y : Option ℕ) → f x ≡ y → IsGreatestOf f xs g → IsGreatestOf f (xs ++ x ∷ []) (option_max g y)
@@ -28,7 +29,7 @@ max_below (Some a) None n low_a low_b = low_a
 max_below (Some a) (Some b) n low_a low_b = omega arith
 
 -- the best of a node
-module _ (steps : List SystemStep) (best : List (Option ℕ)) (p : ℕ) (out : List SystemStep) (of : AreStepsOf steps p out) (ahead : (s : SystemStep) (q : ℕ) → Contains steps s → s.source ≡ p → s.target ≡ Some q → IsBest steps q (get_or best q None)) where
+module _ (steps : List SystemStep) (best : List (Option ℕ)) (p : ℕ) (out : List SystemStep) (of : AreStepsOf system_ends steps p out) (ahead : (s : SystemStep) (q : ℕ) → Contains steps s → s.source ≡ p → s.target ≡ Some q → IsBest steps q (get_or best q None)) where
   reached_by : (s : SystemStep) (b : ℕ) (target : Option ℕ) (a : Option ℕ) → Contains steps s → s.source ≡ p → s.target ≡ target → cost_ahead best target ≡ a → option_map (λ n. s.cost + n) a ≡ Some b → (walk : List SystemStep) × IsWalk steps (Some p) walk × (walk_cost walk ≡ b)
   reached_by s b target None among at to is gives = absurd (none-some b gives)
   reached_by s b None (Some a) among at to is gives = (s ∷ [], (among, ap Some (sym at), to), ap (λ n. s.cost + n) (same_Some 0 a is) ∙ same_Some (s.cost + a) b gives)
@@ -66,7 +67,7 @@ module _ (steps : List SystemStep) (best : List (Option ℕ)) (p : ℕ) (out : L
   new_best g is = record { attained = attained_by g is; most = most_by g is }
 
 -- one more node of the order
-pub best_more : (steps : List SystemStep) (order : List ℕ) (best : List (Option ℕ)) (i p : ℕ) (out : List SystemStep) (g : Option ℕ) → IsOrdered steps order → slice_get order i ≡ Some p → p < length best → ((j q : ℕ) → j < i → slice_get order j ≡ Some q → IsBest steps q (get_or best q None)) → AreStepsOf steps p out → IsGreatestOf (cost_through best) out g → (j q : ℕ) → j < i + 1 → slice_get order j ≡ Some q → IsBest steps q (get_or (set best p g) q None)
+pub best_more : (steps : List SystemStep) (order : List ℕ) (best : List (Option ℕ)) (i p : ℕ) (out : List SystemStep) (g : Option ℕ) → IsOrdered (Joins system_ends steps) order → slice_get order i ≡ Some p → p < length best → ((j q : ℕ) → j < i → slice_get order j ≡ Some q → IsBest steps q (get_or best q None)) → AreStepsOf system_ends steps p out → IsGreatestOf (cost_through best) out g → (j q : ℕ) → j < i + 1 → slice_get order j ≡ Some q → IsBest steps q (get_or (set best p g) q None)
 best_more steps order best i p out g ordered here_p known old of is j q less at = ⊎_elim
     (λ (before : j < i).
     let apart : q ≡ p → ⊥ = λ same. let one : j ≡ i = ordered.once j i p (subst (λ (x : ℕ). slice_get order j ≡ Some x) same at) here_p in omega arith in
@@ -79,7 +80,7 @@ best_more steps order best i p out g ordered here_p known old of is j q less at 
   where
     ahead : (s : SystemStep) (r : ℕ) → Contains steps s → s.source ≡ p → s.target ≡ Some r → IsBest steps r (get_or best r None)
     ahead s r among from to =
-        let found = ordered.earlier i s r (here_p ∙ ap Some (sym from)) among to in
+        let found = ordered.earlier i p r here_p (s, among, from, to) in
         old found.0 r found.1 found.2
 
     made : IsBest steps p g

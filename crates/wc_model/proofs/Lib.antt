@@ -12,3 +12,4 @@ pub mod Starting
 pub mod SteeringLemmas
 pub mod StepLemmas
 pub mod Untouched
+pub mod WorkedRows

@@ -1,1 +1,15 @@
+pub mod Bounds
+pub mod Ceiling
+pub mod Cells
+pub mod Certificates
+pub mod Counts
+pub mod Ends
+pub mod Exact
+pub mod Nest
+pub mod Places
+pub mod RowMachine
+pub mod RowResults
+pub mod SystemWalks
+pub mod Systems
+pub mod Tableaus
 pub mod Walks

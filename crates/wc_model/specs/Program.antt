@@ -1,7 +1,9 @@
 pub mod Elf
+pub mod Graphs
 pub mod Image
 pub mod Instruction
 pub mod Paths
 pub mod Positions
+pub mod Reaching
 pub mod Steps
 pub mod Words

@@ -1,8 +1,13 @@
+pub mod Chain
 pub mod Closures
 pub mod Edits
 pub mod Entries
+pub mod Feature
 pub mod Firsts
 pub mod Hardware
 pub mod History
 pub mod KindNames
+pub mod Kinds
+pub mod Phases
+pub mod Registry
 pub mod States

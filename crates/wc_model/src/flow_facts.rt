@@ -28,11 +28,25 @@ pub enum Fact {
         bound: Option<u32>,
         within: Targets,
     },
-    Multibranch { at: Addr, to: Targets },
-    Multicall { at: Addr, to: Targets },
-    Noreturn { at: Addr },
-    Checksum { name: Text, value: u32 },
-    Limit { left: Sum, right: Sum },
+    Multibranch {
+        at: Addr,
+        to: Targets,
+    },
+    Multicall {
+        at: Addr,
+        to: Targets,
+    },
+    Noreturn {
+        at: Addr,
+    },
+    Checksum {
+        name: Text,
+        value: u32,
+    },
+    Limit {
+        left: Sum,
+        right: Sum,
+    },
 }
 
 /// Flow facts, each with the number of the edit that added it.

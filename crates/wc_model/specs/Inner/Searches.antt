@@ -1,29 +1,11 @@
 -- What a depth-first search knows while it runs.
 use Rattle.std.specs.Prelude.{ℕ, ◌≡◌, ◌+◌, ◌-◌, ◌<◌, ◌≤◌, ◌⊎◌, List, Option, None, Some, Contains, slice_get, slice_index, length, sum_by}
-use Rattle.wc_model.specs.declared.flow_system.SystemStep.{SystemStep}
 use Rattle.wc_model.specs.declared.walks.search.Mark.{Mark}
 use Rattle.wc_model.specs.declared.walks.search.Mark.TheVariants.{New, Open, Done}
 use Rattle.wc_model.specs.declared.walks.search.Search.{Search}
-use Rattle.wc_model.specs.Flow.Walks.{Reaches, IsOrdered}
-
--- the open nodes are those on the path from the start, and each step that was followed leads to a node that is done
-pub record IsSearchOf (steps : List SystemStep) (start : ℕ) (marks : List Mark) (next path done : List ℕ) : Type 0 where
-  pub sized : length marks ≤ length next
-  pub from : (p i : ℕ) (s : SystemStep) → p < length marks → slice_get steps i ≡ Some s → slice_index next p ≤ i → p ≤ s.source
-  pub passed : (i : ℕ) (s : SystemStep) (q : ℕ) → slice_get steps i ≡ Some s → i < slice_index next s.source → s.target ≡ Some q → slice_get marks q ≡ Some Done
-  pub path_open : (p : ℕ) → Contains path p → slice_get marks p ≡ Some Open
-  pub open_path : (p : ℕ) → slice_get marks p ≡ Some Open → Contains path p
-  pub done_marked : (p : ℕ) → Contains done p → slice_get marks p ≡ Some Done
-  pub marked_done : (p : ℕ) → slice_get marks p ≡ Some Done → Contains done p
-  pub path_once : (i j p : ℕ) → slice_get path i ≡ Some p → slice_get path j ≡ Some p → i ≡ j
-  pub chain : (i j p q : ℕ) → i ≤ j → slice_get path i ≡ Some p → slice_get path j ≡ Some q → Reaches steps p q
-  pub reached_path : (p : ℕ) → Contains path p → Reaches steps start p
-  pub reached_done : (p : ℕ) → Contains done p → Reaches steps start p
-  pub begun : Contains path start ⊎ Contains done start
-  pub ordered : IsOrdered steps done
-
-abbrev pub IsSearch : List SystemStep → Search → Type 0
-IsSearch steps search = IsSearchOf steps search.start search.marks.items search.next.items search.path.items search.done.items
+use Rattle.wc_model.specs.Flow.Ends.{Ends}
+use Rattle.wc_model.specs.Flow.Walks.{Joins, IsOrdered}
+use Rattle.wc_model.specs.Program.Reaching.{Reaches}
 
 -- the rounds that may be left: two for a new node, one for an open one, and one for each step that isn't followed
 abbrev pub weight : Mark → ℕ
@@ -31,14 +13,34 @@ weight New = 2
 weight Open = 1
 weight Done = 0
 
-abbrev pub rounds_left : List SystemStep → Search → ℕ
+abbrev pub rounds_left : {S : Type 0} → List S → Search → ℕ
 rounds_left steps search = sum_by weight search.marks.items + sum_by (λ place. length steps - place) search.next.items
 
--- the step at a place leaves the node, or the steps from there on leave other ones
-abbrev pub IsNextStep : List SystemStep → ℕ → ℕ → Option SystemStep → Type 0
-IsNextStep steps node place None = (s : SystemStep) → slice_get steps place ≡ Some s → s.source ≡ node → ⊥
-IsNextStep steps node place (Some s) = (slice_get steps place ≡ Some s) × (s.source ≡ node)
+module _ {S : Type 0} (ends : S → Ends) where
+  -- the open nodes are those on the path from the start, and each step that was followed leads to a node that is done
+  pub record IsSearchOf (steps : List S) (start : ℕ) (marks : List Mark) (next path done : List ℕ) : Type 0 where
+    pub sized : length marks ≤ length next
+    pub from : (p i : ℕ) (s : S) → p < length marks → slice_get steps i ≡ Some s → slice_index next p ≤ i → p ≤ (ends s).source
+    pub passed : (i : ℕ) (s : S) (q : ℕ) → slice_get steps i ≡ Some s → i < slice_index next (ends s).source → (ends s).target ≡ Some q → slice_get marks q ≡ Some Done
+    pub path_open : (p : ℕ) → Contains path p → slice_get marks p ≡ Some Open
+    pub open_path : (p : ℕ) → slice_get marks p ≡ Some Open → Contains path p
+    pub done_marked : (p : ℕ) → Contains done p → slice_get marks p ≡ Some Done
+    pub marked_done : (p : ℕ) → slice_get marks p ≡ Some Done → Contains done p
+    pub path_once : (i j p : ℕ) → slice_get path i ≡ Some p → slice_get path j ≡ Some p → i ≡ j
+    pub chain : (i j p q : ℕ) → i ≤ j → slice_get path i ≡ Some p → slice_get path j ≡ Some q → Reaches (Joins ends steps) p q
+    pub reached_path : (p : ℕ) → Contains path p → Reaches (Joins ends steps) start p
+    pub reached_done : (p : ℕ) → Contains done p → Reaches (Joins ends steps) start p
+    pub begun : Contains path start ⊎ Contains done start
+    pub ordered : IsOrdered (Joins ends steps) done
 
--- a round keeps what the search knows, and fewer are left
-abbrev pub IsRound : List SystemStep → Search → Search → Type 0
-IsRound steps old new = IsSearch steps new × (rounds_left steps new < rounds_left steps old)
+  abbrev pub IsSearch : List S → Search → Type 0
+  IsSearch steps search = IsSearchOf steps search.start search.marks.items search.next.items search.path.items search.done.items
+
+  -- the step at a place leaves the node, or the steps from there on leave other ones
+  abbrev pub IsNextStep : List S → ℕ → ℕ → Option S → Type 0
+  IsNextStep steps node place None = (s : S) → slice_get steps place ≡ Some s → (ends s).source ≡ node → ⊥
+  IsNextStep steps node place (Some s) = (slice_get steps place ≡ Some s) × ((ends s).source ≡ node)
+
+  -- a round keeps what the search knows, and fewer are left
+  abbrev pub IsRound : List S → Search → Search → Type 0
+  IsRound steps old new = IsSearch steps new × (rounds_left steps new < rounds_left steps old)

@@ -1,29 +1,17 @@
--- Paths from the start of a function to its exit, and what they cost.
+-- Paths from the start of a function to its exit, and what each step costs beside its fetch.
 use Rattle.std.specs.Prelude.{ℕ, ◌≡◌, ◌+◌, ◌*◌, Bool, if◌then◌else◌, List, [], ◌∷◌, Option, None, Some, Contains}
-use Rattle.wc_model.specs.declared.elf_image.Image.{Image}
-use Rattle.wc_model.specs.declared.flow_facts.Fact.{Fact}
 use Rattle.wc_model.specs.declared.instructions.Class.{Class}
 use Rattle.wc_model.specs.declared.instructions.Class.TheVariants.{Alu, Mul, Div, Load, Store, Multi, Branch, System}
 use Rattle.wc_model.specs.declared.instructions.Insn.{Insn}
 use Rattle.wc_model.specs.declared.machine.Cycles.{Cycles}
-use Rattle.wc_model.specs.Program.Positions.{Position}
-use Rattle.wc_model.specs.Program.Steps.{Step, steps_of, insn_at}
+use Rattle.wc_model.specs.Program.Steps.{Move}
 
-module _ (image : Image) (facts : List Fact) (entry : ℕ) where
-  -- the positions that steps join to `p`
-  pub data Reaches (p : Position) : Position → Type 0 where
-    here : Reaches p p
-    along : {q : Position} (s : Step) (r : Position) → Reaches p q → Contains (steps_of image facts entry q) s → s.target ≡ Some r → Reaches p r
-
-  -- one or more steps lead from `p` to `q`
-  abbrev pub Leads : Position → Position → Type 0
-  Leads p q = (s : Step) × (r : Position) × Contains (steps_of image facts entry p) s × (s.target ≡ Some r) × Reaches r q
-
-  -- a path from `p` to the exit: each step leaves the target of the one before, and the last one leaves the function
-  abbrev pub IsPath : Position → List Step → Type 0
+-- a path from `p` to the exit: each step leaves the target of the one before, and the last one leaves the function
+module _ {P : Type 0} (steps : P → List (Move P)) where
+  abbrev pub IsPath : P → List (Move P) → Type 0
   IsPath p [] = ⊥
-  IsPath p (s ∷ []) = Contains (steps_of image facts entry p) s × (s.target ≡ None)
-  IsPath p (s ∷ t ∷ path) = Contains (steps_of image facts entry p) s × (s.target ≡ Some t.source) × IsPath t.source (t ∷ path)
+  IsPath p (s ∷ []) = Contains (steps p) s × (s.source ≡ p) × (s.target ≡ None)
+  IsPath p (s ∷ t ∷ path) = Contains (steps p) s × (s.source ≡ p) × (s.target ≡ Some t.source) × IsPath t.source (t ∷ path)
 
 -- the cycles of a class
 abbrev pub class_cycles : Cycles → Class → ℕ
@@ -43,10 +31,3 @@ insn_cycles c taken insn = class_cycles c insn.class + c.per_register * insn.mov
 abbrev pub known_cycles : Cycles → Bool → Option Insn → ℕ
 known_cycles c taken None = 0
 known_cycles c taken (Some insn) = insn_cycles c taken insn
-
-abbrev pub step_cycles : Image → Cycles → Step → ℕ
-step_cycles image c s = known_cycles c s.taken (insn_at image s.source.pc)
-
-abbrev pub path_cycles : Image → Cycles → List Step → ℕ
-path_cycles image c [] = 0
-path_cycles image c (s ∷ path) = step_cycles image c s + path_cycles image c path

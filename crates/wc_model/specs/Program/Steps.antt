@@ -1,6 +1,6 @@
 -- The steps of a position: where the instruction there may lead. After the branches, calls and returns of the
 -- ARM ARM, with calls expanded.
-use Rattle.std.specs.Prelude.{ℕ, ◌+◌, ◌%◌, ◌^◌, ◌==◌, ◌||◌, Bool, true, false, nat_lt, if◌then◌else◌, List, [], ◌∷◌, ◌++◌, map, Option, None, Some, option_and_then}
+use Rattle.std.specs.Prelude.{ℕ, ◌+◌, ◌%◌, ◌^◌, ◌==◌, ◌||◌, Bool, true, false, nat_lt, if◌then◌else◌, List, [], ◌∷◌, ◌++◌, map, Option, None, Some, option_and_then, ◌≡◌, Contains}
 use Rattle.std.specs.List.{flat_map, list_any}
 use Rattle.wc_base.specs.declared.faults.Fault.{Fault}
 use Rattle.wc_base.specs.declared.faults.Fault.TheVariants.{OutOfText, UnknownInstruction, Unresolved, Recursion}
@@ -80,11 +80,14 @@ fault_at image facts entry p = word_fault entry facts p (word_at image p.pc)
 
 -- The steps of the other positions.
 
--- a step leads from a position to another one, or to the exit where there is no target
-pub record Step : Type 0 where
-  pub source : Position
-  pub target : Option Position
+-- a step leads from one place to another, or to the exit where there is no target
+pub record Move (P : Type 0) : Type 0 where
+  pub source : P
+  pub target : Option P
   pub taken : Bool
+
+abbrev pub Step : Type 0
+Step = Move Position
 
 abbrev pub jump_to : Position → ℕ → Option Position
 jump_to p target = Some (record { calls = p.calls; pc = target })
@@ -141,3 +144,7 @@ steps_known facts p (Some insn) = insn_steps facts p insn
 -- the steps of a position under the facts, in the function at `entry`
 abbrev pub steps_of : Image → List Fact → ℕ → Position → List Step
 steps_of image facts entry p = steps_unless (fault_at image facts entry p) (steps_known facts p (insn_at image p.pc))
+
+-- a step of a position leads there
+abbrev pub LeadsBy : {P : Type 0} → (P → List (Move P)) → P → Option P → Type 0
+LeadsBy {P} steps p t = (s : Move P) × Contains (steps p) s × (s.target ≡ t)

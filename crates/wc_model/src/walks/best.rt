@@ -1,4 +1,5 @@
 ghost use Rattle.std.specs.Prelude.{◌<◌, IfOk};
+ghost use Rattle.wc_model.specs.Flow.Ends.{system_ends};
 ghost use Rattle.wc_model.specs.Flow.Walks.{AreSteps, IsGreatestFrom};
 
 use crate::SystemStep;
@@ -20,7 +21,7 @@ pub fn greatest_from(
     steps: &[SystemStep],
     start: u32,
 ) -> Result<Greatest, AllocError>
-    requires steps { AreSteps nodes steps.now }
+    requires steps { AreSteps system_ends nodes steps.now }
     requires start { start < nodes }
     ensures { IfOk result (IsGreatestFrom steps.now start) }
 {

@@ -1,6 +1,7 @@
 ghost use Rattle.std.specs.Prelude.{◌≡◌, ℕ, ◌+◌, ◌<◌, ◌≤◌, ◌^◌, List, Option, Some, IfSome, length, replicate, Contains, IfOk, All, slice_get};
 ghost use Rattle.wc_model.specs.Inner.Greatest.{IsGreatestOf, cost_through, option_max};
-ghost use Rattle.wc_model.specs.Flow.Walks.{AreSteps, IsOrdered, IsBest};
+ghost use Rattle.wc_model.specs.Flow.Ends.{system_ends};
+ghost use Rattle.wc_model.specs.Flow.Walks.{AreSteps, Joins, IsOrdered, IsBest};
 
 use crate::SystemStep;
 use crate::walks::{starts, steps_from};
@@ -13,9 +14,9 @@ pub fn greatest_costs(
     steps: &[SystemStep],
     order: &[u32],
 ) -> Result<Vec<Option<u128>>, AllocError>
-    requires steps { AreSteps nodes steps.now }
+    requires steps { AreSteps system_ends nodes steps.now }
     requires inside { All (λ p. p < nodes) order.now }
-    requires ordered { IsOrdered steps.now order.now }
+    requires ordered { IsOrdered (Joins system_ends steps.now) order.now }
     ensures count { IfOk result (λ v. length v.items ≡ nodes) }
     ensures best { IfOk result (λ v. (p : ℕ) → Contains order.now p → (best : Option ℕ) × (slice_get v.items p ≡ Some best) × IsBest steps.now p best) }
 {

@@ -1,15 +1,14 @@
 ghost use Rattle.std.specs.Prelude.{◌≡◌, ◌+◌, ℕ, ◌<◌, ◌≤◌, length, slice_get, IfOk, Some};
 ghost use Rattle.wc_model.specs.Flow.Walks.{AreSteps, AreStarts, AreStepsOf};
-ghost use Rattle.wc_model.specs.declared.flow_system.SystemStep.{SystemStep};
 
-use crate::SystemStep;
+use crate::walks::Arrow;
 use std::alloc::{AllocError, Global};
 
 /// Per node the place of its first step, and the number of steps after the last one. The steps of a node
 /// stand between its place and the next one.
-pub fn starts(alloc: Global, nodes: u32, steps: &[SystemStep]) -> Result<Vec<usize>, AllocError>
-    requires { AreSteps nodes steps.now }
-    ensures { IfOk result (λ v. AreStarts (nodes + 1) steps.now v.items) }
+pub fn starts<S: Arrow>(alloc: Global, nodes: u32, steps: &[S]) -> Result<Vec<usize>, AllocError>
+    requires { AreSteps S.ends nodes steps.now }
+    ensures { IfOk result (λ v. AreStarts S.ends (nodes + 1) steps.now v.items) }
 {
     let mut starts = Vec::with_capacity(alloc, nodes as usize + 1)?;
     let mut place = 0;
@@ -22,10 +21,10 @@ pub fn starts(alloc: Global, nodes: u32, steps: &[SystemStep]) -> Result<Vec<usi
 }
 
 /// The steps of a node.
-pub fn steps_from<'a>(steps: &'a [SystemStep], starts: &[usize], node: u32) -> &'a [SystemStep]
-    requires starts { AreStarts (length starts.now) steps.now starts.now }
+pub fn steps_from<'a, S: Arrow>(steps: &'a [S], starts: &[usize], node: u32) -> &'a [S]
+    requires starts { AreStarts S.ends (length starts.now) steps.now starts.now }
     requires known { node + 1 < length starts.now }
-    ensures { AreStepsOf steps.now node result.now }
+    ensures { AreStepsOf S.ends steps.now node result.now }
 {
     let from = starts[node as usize];
     let to = starts[node as usize + 1];
@@ -33,15 +32,15 @@ pub fn steps_from<'a>(steps: &'a [SystemStep], starts: &[usize], node: u32) -> &
 }
 
 // The first place at or after `from` whose step leaves `node` or a later one.
-fn first_from(steps: &[SystemStep], node: u32, from: usize) -> usize
+fn first_from<S: Arrow>(steps: &[S], node: u32, from: usize) -> usize
     requires { from ≤ length steps.now }
     ensures least { from ≤ result }
     ensures inside { result ≤ length steps.now }
-    ensures below { (i : ℕ) (s : SystemStep) → from ≤ i → i < result → slice_get steps.now i ≡ Some s → s.source < node }
-    ensures ends { (s : SystemStep) → slice_get steps.now result ≡ Some s → node ≤ s.source }
+    ensures below { (i : ℕ) (s : S) → from ≤ i → i < result → slice_get steps.now i ≡ Some s → (S.ends s).source < node }
+    ensures ends { (s : S) → slice_get steps.now result ≡ Some s → node ≤ (S.ends s).source }
 {
     let mut place = from;
-    while place < steps.len() && steps[place].source < node {
+    while place < steps.len() && steps[place].source() < node {
         place += 1;
     }
     place

@@ -1,9 +1,8 @@
 ghost use Rattle.std.specs.Prelude.{◌≡◌, ◌+◌, ◌-◌, ◌<◌, ◌^◌, ◌++◌, ◌∷◌, [], IfOk, Some, slice_get, slice_index, slice_set, length, replicate, IsSome, MatchOption};
 ghost use Rattle.wc_model.specs.Inner.Searches.{IsSearch, IsNextStep, IsRound};
-ghost use Rattle.wc_model.specs.Flow.Walks.{AreSteps, IsCycle, IsSearched};
+ghost use Rattle.wc_model.specs.Flow.Walks.{AreSteps, Joins, IsCycle, IsSearched};
 
-use crate::SystemStep;
-use crate::walks::starts;
+use crate::walks::{Arrow, starts};
 use std::alloc::{AllocError, Global};
 
 /// The nodes that the start reaches: one of them reaches itself, or they have an order in which every step
@@ -33,10 +32,10 @@ struct Search {
 }
 
 impl Search {
-    fn new(alloc: Global, nodes: u32, steps: &[SystemStep], start: u32) -> Result<Self, AllocError>
-        requires steps { AreSteps nodes steps.now }
+    fn new<S: Arrow>(alloc: Global, nodes: u32, steps: &[S], start: u32) -> Result<Self, AllocError>
+        requires steps { AreSteps S.ends nodes steps.now }
         requires start { start < nodes }
-        ensures search { IfOk result (IsSearch steps.now) }
+        ensures search { IfOk result (IsSearch S.ends steps.now) }
         ensures start { IfOk result (λ s. s.start ≡ start) }
         ensures count { IfOk result (λ s. length s.marks.items ≡ nodes) }
     {
@@ -95,29 +94,29 @@ impl Search {
     }
 
     // The first step of a node that isn't followed yet.
-    fn next_step(&self, steps: &[SystemStep], node: u32) -> Option<SystemStep>
+    fn next_step<S: Arrow>(&self, steps: &[S], node: u32) -> Option<S>
         requires { node < length self.now.next.items }
-        ensures next { IsNextStep steps.now node (slice_index self.now.next.items node) result }
+        ensures next { IsNextStep S.ends steps.now node (slice_index self.now.next.items node) result }
         ensures short { IsSome result → slice_index self.now.next.items node + 1 < 2 ^ 64 }
     {
         match steps.get(self.next[node as usize]) {
-            Some(step) if step.source == node => Some(*step),
+            Some(step) if step.source() == node => Some(*step),
             _ => None,
         }
     }
 
     // One round at the last open node. A node that reaches itself is the result.
-    fn advance(&mut self, steps: &[SystemStep], node: u32) -> Result<Option<u32>, AllocError>
-        requires steps { AreSteps (length self.old.marks.items) steps.now }
-        requires search { IsSearch steps.now self.old }
+    fn advance<S: Arrow>(&mut self, steps: &[S], node: u32) -> Result<Option<u32>, AllocError>
+        requires steps { AreSteps S.ends (length self.old.marks.items) steps.now }
+        requires search { IsSearch S.ends steps.now self.old }
         requires last { slice_get self.old.path.items (length self.old.path.items - 1) ≡ Some node }
         ensures count { length self.new.marks.items ≡ length self.old.marks.items }
         ensures start { self.new.start ≡ self.old.start }
-        ensures round { IfOk result (λ cycle. MatchOption cycle (IsRound steps.now self.old self.new) (IsCycle steps.now self.old.start)) }
+        ensures round { IfOk result (λ cycle. MatchOption cycle (IsRound S.ends steps.now self.old self.new) (IsCycle (Joins S.ends steps.now) self.old.start)) }
     {
         match self.next_step(steps, node) {
             None => self.leave(node)?,
-            Some(step) => match step.target {
+            Some(step) => match step.target() {
                 None => self.follow(node),
                 Some(target) => match self.marks[target as usize] {
                     Mark::New => self.enter(target)?,
@@ -141,15 +140,15 @@ fn new_marks(alloc: Global, nodes: u32) -> Result<Vec<Mark>, AllocError>
 }
 
 /// Searches the nodes from `start` on, depth first.
-pub fn order_nodes(
+pub fn order_nodes<S: Arrow>(
     alloc: Global,
     nodes: u32,
-    steps: &[SystemStep],
+    steps: &[S],
     start: u32,
 ) -> Result<Order, AllocError>
-    requires steps { AreSteps nodes steps.now }
+    requires steps { AreSteps S.ends nodes steps.now }
     requires start { start < nodes }
-    ensures { IfOk result (IsSearched steps.now start) }
+    ensures { IfOk result (IsSearched (Joins S.ends steps.now) start) }
 {
     let mut search = Search::new(alloc, nodes, steps, start)?;
     while let Some(node) = search.path.last().copied() {

@@ -1,4 +1,5 @@
 ghost use Rattle.std.specs.Prelude.{◌≡◌, ◌<◌, IfSome, IsFalse, IsTrue};
+ghost use Rattle.wc_model.specs.Flow.Ends.{system_ends};
 ghost use Rattle.wc_model.specs.Flow.Walks.{AreSteps};
 
 use crate::SystemStep;
@@ -8,7 +9,7 @@ use std::test::Fail;
 
 // Whether the steps lead between the nodes, in the order of their sources.
 fn are_steps(nodes: u32, steps: &[SystemStep]) -> bool
-    ensures { IsTrue result → AreSteps nodes steps.now }
+    ensures { IsTrue result → AreSteps system_ends nodes steps.now }
 {
     let mut last = 0;
     for step in steps {

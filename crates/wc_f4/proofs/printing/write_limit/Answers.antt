@@ -1,12 +1,12 @@
 use Rattle.std.proofs.Common.{◌++◌}
 use Rattle.std.specs.Prelude.{codes}
-use Rattle.wc_io.proofs.WritingLemmas.{Writes_after, part_longer}
 use Rattle.wc_f4.specs.FactText.{sum_text}
+use Rattle.wc_io.proofs.WritingLemmas.{Writes_after}
+use Rattle.wc_f4.proofs.PrintingLemmas.{Writes_stopped}
 use Rattle.wc_f4.proofs.printing.write_limit.Goals as goal
 
-pub returns-in-Ok-clause-text : goal.returns-in-Ok-clause-text
-returns-in-Ok-clause-text g c =
-    Writes_after _ (g.K.Sink.held c.write_left.new.sink) _ c.write_last_side.result (codes "limit " ++ sum_text c.args.left.now) ((codes " <= " ++ sum_text c.args.right.now) ++ codes ";") c.in-Ok.ensures.text c.write_last_side.ensures.text
+pub returns-in_err-write_left-clause-text : goal.returns-in_err-write_left-clause-text
+returns-in_err-write_left-clause-text g c = Writes_stopped _ _ c.from_residual.result (codes "limit " ++ sum_text c.args.left.now) ((codes " <= " ++ sum_text c.args.right.now) ++ codes ";") c.from_residual.ensures.0 c.in_err-write_left.ensures.text
 
-pub returns-in-Err-clause-text : goal.returns-in-Err-clause-text
-returns-in-Err-clause-text g c = part_longer _ _ (codes "limit " ++ sum_text c.args.left.now) ((codes " <= " ++ sum_text c.args.right.now) ++ codes ";") c.in-Err.ensures.text
+pub returns-clause-text : goal.returns-clause-text
+returns-clause-text g c = Writes_after _ (g.K.Sink.held c.write_left.new.sink) _ c.write_last_side.result (codes "limit " ++ sum_text c.args.left.now) ((codes " <= " ++ sum_text c.args.right.now) ++ codes ";") c.in_ok-write_left.ensures.text c.write_last_side.ensures.text

@@ -1,11 +1,11 @@
 use Rattle.std.specs.Prelude.{codes}
-use Rattle.wc_io.proofs.WritingLemmas.{Writes_after, part_longer}
 use Rattle.wc_f4.specs.FactText.{term_text}
+use Rattle.wc_io.proofs.WritingLemmas.{Writes_after}
+use Rattle.wc_f4.proofs.PrintingLemmas.{Writes_stopped}
 use Rattle.wc_f4.proofs.printing.write_next_term.Goals as goal
 
-pub returns-in-Ok-clause-text : goal.returns-in-Ok-clause-text
-returns-in-Ok-clause-text g c =
-    Writes_after _ (g.K.Sink.held c.write_whole.new.sink) _ c.write_term.result (codes " + ") (term_text c.args.term.now) c.in-Ok.ensures.text c.write_term.ensures.text
+pub returns-in_err-write_whole-clause-text : goal.returns-in_err-write_whole-clause-text
+returns-in_err-write_whole-clause-text g c = Writes_stopped _ _ c.from_residual.result (codes " + ") (term_text c.args.term.now) c.from_residual.ensures.0 c.in_err-write_whole.ensures.text
 
-pub returns-in-Err-clause-text : goal.returns-in-Err-clause-text
-returns-in-Err-clause-text g c = part_longer _ _ (codes " + ") (term_text c.args.term.now) c.in-Err.ensures.text
+pub returns-clause-text : goal.returns-clause-text
+returns-clause-text g c = Writes_after _ (g.K.Sink.held c.write_whole.new.sink) _ c.write_term.result (codes " + ") (term_text c.args.term.now) c.in_ok-write_whole.ensures.text c.write_term.ensures.text

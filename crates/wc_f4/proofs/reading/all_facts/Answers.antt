@@ -1,11 +1,11 @@
 use Rattle.std.proofs.Common.{refl, ◌∙◌}
 use Rattle.wc_f4.specs.Places as place
-use Rattle.wc_f4.specs.Places.{answer}
-use Rattle.wc_f4.specs.Views.{left}
-use Rattle.wc_f4.specs.Reading.{names_of}
-use Rattle.wc_f4.proofs.ParsingLemmas.{at_end}
+use Rattle.wc_f4.specs.Views.{known, left}
+use Rattle.wc_f4.proofs.ParsingLemmas.{at_end, behind, passed_on}
 use Rattle.wc_f4.proofs.reading.all_facts.Goals as goal
 
-pub returns-then-is_at_end : goal.returns-then-is_at_end
-returns-then-is_at_end c =
-    c.facts.invariant ∙ at_end (names_of c.args.image.now) place.start place.start c.facts.facts.items (left c.facts.reader) refl c.if-is_at_end.ensures
+pub returns-in_err-next_fact : goal.returns-in_err-next_fact
+returns-in_err-next_fact c = behind c.from_residual.result _ _ _ c.facts.invariant (passed_on c.from_residual.result _ _ _ _ c.from_residual.ensures.1 c.in_err-next_fact.ensures.read)
+
+pub returns : goal.returns
+returns c = c.facts.invariant ∙ at_end (known c.facts.names) place.start place.start c.facts.facts.items (left c.facts.reader) refl c.facts-test.ensures

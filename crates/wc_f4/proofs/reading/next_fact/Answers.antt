@@ -1,19 +1,18 @@
-use Rattle.std.proofs.Common.{List, Err, sym, ap, ◌∙◌}
+use Rattle.std.proofs.Common.{List, sym, ap, ◌∙◌}
+use Rattle.wc_model.specs.declared.flow_facts.Fact.{Fact}
 use Rattle.wc_f4.specs.Places as place
 use Rattle.wc_f4.specs.Places.{answer}
-use Rattle.wc_f4.specs.Views.{left}
-use Rattle.wc_f4.specs.Reading.{names_of}
-use Rattle.wc_f4.proofs.ParsingLemmas.{alike_here, behind, passed}
+use Rattle.wc_f4.specs.Views.{known, left}
+use Rattle.wc_f4.proofs.ParsingLemmas.{alike_here, behind, passed_on}
 use Rattle.wc_f4.proofs.reading.next_fact.Goals as goal
-use Rattle.wc_model.specs.declared.flow_facts.Fact.{Fact}
 
-pub returns-in-Err-clause-read : goal.returns-in-Err-clause-read
-returns-in-Err-clause-read c =
-    behind (Err c.in-Err.stop) _ _ _ (alike_here (names_of c.args.image.now) place.start c.args.facts.now.items (left c.args.reader.now) c.requires)
-    (passed c.in-Err.stop _ _ _ (c.in-Err.ensures.read place.start c.args.facts.now.items))
+pub returns-in_err-fact-clause-read : goal.returns-in_err-fact-clause-read
+returns-in_err-fact-clause-read c =
+    behind c.from_residual.result _ _ _ (alike_here (known c.args.names.now) place.start c.args.facts.now.items (left c.args.reader.now) c.requires)
+    (passed_on c.from_residual.result _ _ _ _ c.from_residual.ensures.1 (c.in_err-fact.ensures.read place.start c.args.facts.now.items))
 
-pub returns-in-Ok-add-clause-read : goal.returns-in-Ok-add-clause-read
-returns-in-Ok-add-clause-read c =
-    alike_here (names_of c.args.image.now) place.start c.args.facts.now.items (left c.args.reader.now) c.requires
-    ∙ c.in-Ok.ensures.read place.start c.args.facts.now.items
-    ∙ ap (λ (all : List Fact). answer (names_of c.args.image.now) place.start place.start all (left c.fact.new.reader)) (sym c.in-Ok-add.ensures)
+pub returns-clause-read : goal.returns-clause-read
+returns-clause-read c =
+    alike_here (known c.args.names.now) place.start c.args.facts.now.items (left c.args.reader.now) c.requires
+    ∙ c.in_ok-fact.ensures.read place.start c.args.facts.now.items
+    ∙ ap (λ (all : List Fact). answer (known c.fact.new.names) place.start place.start all (left c.fact.new.reader)) (sym c.in_ok-push.ensures.items)

@@ -1,5 +1,7 @@
 use Rattle.wc_hw.proofs.TextLemmas.{flat_joined}
 use Rattle.wc_hw.proofs.printing.write_cycles.Goals as goal
 
-pub returns-clause-text : goal.returns-clause-text
-returns-clause-text g c = rw flat_joined at c.write_pieces.ensures.text
+pub returns : goal.returns
+returns g c =
+    let written = c.write_pieces.ensures in
+    record { text = rw flat_joined at written.text; cause = written.cause; place = written.place }

@@ -1,5 +1,6 @@
-use Rattle.std.proofs.Common.{◌<◌, ap, ◌∙◌, string_bytes, length, Some, arith}
-use Rattle.wc_io.proofs.FileLemmas.{IsFirstAt, found, first_within, set_filled, set_others, absent, added, added_others}
+use Rattle.std.proofs.Common.{◌≡◌, ◌<◌, ℕ, List, [], refl, sym, ap, ◌∙◌, map, length, rules, arith}
+use Rattle.wc_io.proofs.FileLemmas.{absent, found, first_failing, first_within, made, none_failing, set_emptied}
+use Rattle.wc_io.specs.Memory.{seen}
 use Rattle.wc_io.specs.declared.memory_files.MemoryFile.{MemoryFile}
 use Rattle.wc_io.proofs.memory_files.empty_file.Goals as goal
 
@@ -13,22 +14,24 @@ index_mut-requires c =
     let within : c.in-Some.i < length c.args.files.now.items = first_within _ _ _ (found c.args.path.now c.args.files.now.items c.in-Some.i (cc c.in-Some.ensures)) in
     omega (arith, c.deref.ensures.len, ap length c.deref.ensures.value)
 
-pub returns-in_ok-failing-in-Some-clause-emptied : goal.returns-in_ok-failing-in-Some-clause-emptied
-returns-in_ok-failing-in-Some-clause-emptied c =
-    let first : IsFirstAt c.args.path.now c.args.files.now.items c.in-Some.i = found _ _ _ (cc c.in-Some.ensures) in
-    set_filled _ _ _ _ c.index_mut.result.now first (ap (λ (f : MemoryFile). string_bytes f.path) c.index_mut.ensures.value)
-    ∙ ap (λ bytes. Some bytes) c.clear.ensures.items
+pub returns-in_ok-failing-in-Some-clause-files : goal.returns-in_ok-failing-in-Some-clause-files
+returns-in_ok-failing-in-Some-clause-files c =
+    set_emptied _ _ _ _ c.index_mut.result.now (found c.args.path.now c.args.files.now.items c.in-Some.i (cc c.in-Some.ensures))
+    (ap (λ (bytes : List ℕ). record (seen c.index_mut.result.now) { bytes = bytes }) c.clear.ensures.items
+    ∙ ap (λ (f : MemoryFile). record (seen f) { bytes = [] }) c.index_mut.ensures.value)
 
-pub returns-in_ok-failing-in-Some-clause-others : goal.returns-in_ok-failing-in-Some-clause-others
-returns-in_ok-failing-in-Some-clause-others c = λ p other.
-    let first : IsFirstAt c.args.path.now c.args.files.now.items c.in-Some.i = found _ _ _ (cc c.in-Some.ensures) in
-    set_others _ p _ _ _ c.index_mut.result.now first (ap (λ (f : MemoryFile). string_bytes f.path) c.index_mut.ensures.value) other
+pub returns-in_ok-failing-in-Some-clause-failing : goal.returns-in_ok-failing-in-Some-clause-failing
+returns-in_ok-failing-in-Some-clause-failing c =
+    let copied : c.in_ok-failing-in-Some.failing.items ≡ c.index.result.now.failing.items = search rules in
+    copied ∙ ap (λ (f : MemoryFile). f.failing.items) c.index.ensures
+    ∙ sym (first_failing _ _ _ _ (found c.args.path.now c.args.files.now.items c.in-Some.i (cc c.in-Some.ensures)))
 
-pub returns-in_ok-push-in-None-clause-emptied : goal.returns-in_ok-push-in-None-clause-emptied
-returns-in_ok-push-in-None-clause-emptied c =
-    let none = absent 0 c.args.path.now c.args.files.now.items (cc c.in-None.ensures) in
-    rw c.in_ok-push-in-None.ensures.items (added _ _ _ none c.in_ok-from_str-in-None.ensures.ok ∙ ap (λ bytes. Some bytes) c.new.ensures.items)
+pub returns-in_ok-push-in-None-clause-files : goal.returns-in_ok-push-in-None-clause-files
+returns-in_ok-push-in-None-clause-files c =
+    rw c.in_ok-push-in-None.ensures.items
+    (made _ _ _ (absent 0 c.args.path.now c.args.files.now.items (cc c.in-None.ensures))
+    (rw (c.in_ok-from_str-in-None.ensures.ok, c.new.ensures.items, c.new-in-None.ensures.items) refl))
 
-pub returns-in_ok-push-in-None-clause-others : goal.returns-in_ok-push-in-None-clause-others
-returns-in_ok-push-in-None-clause-others c = λ p other.
-    rw c.in_ok-push-in-None.ensures.items (added_others c.args.path.now p _ _ c.in_ok-from_str-in-None.ensures.ok other)
+pub returns-in_ok-push-in-None-clause-failing : goal.returns-in_ok-push-in-None-clause-failing
+returns-in_ok-push-in-None-clause-failing c =
+    c.new-in-None-2.ensures.items ∙ sym (none_failing c.args.path.now (map seen c.args.files.now.items) (absent 0 c.args.path.now c.args.files.now.items (cc c.in-None.ensures)))

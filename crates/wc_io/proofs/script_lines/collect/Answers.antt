@@ -3,8 +3,7 @@ use Rattle.std.proofs.lemmas.List.{length-take-le, take_all}
 use Rattle.std.proofs.KnownBytes.{Consumes-kept, Consumes-nil, Consumes-trans}
 use Rattle.std.specs.Io.KnownBytes.{Consumes}
 use Rattle.wc_io.specs.Ahead.{Ahead, to_come}
-use Rattle.wc_io.specs.Feeds.{NoFeed, IsFirstFeed}
-use Rattle.wc_io.proofs.LineLemmas.{NoFeed_append}
+use Rattle.wc_io.proofs.FeedLemmas.{NoFeed, IsFirstFeed, NoFeed_append, first_feed, no_feed}
 use Rattle.wc_io.proofs.CollectLemmas.{skipped, at_end, part_grows, ended, fed, fed_beyond, unfed_beyond, none_of}
 use Rattle.wc_io.proofs.script_lines.collect.Goals as goal
 
@@ -31,7 +30,7 @@ returns-then-i-room-clause-found g c =
     let a = c.fill.new.self in
     let i = c.in-Some.i in
     let read = Consumes-kept (to_come c.args.ahead.now) (to_come c.loop-count.ahead) (to_come a) p.0 p.4 c.in-Ok.ensures.bytes in
-    let feed : IsFirstFeed a.unread i = subst (λ (bytes : List ℕ). IsFirstFeed bytes i) c.unread-piece.ensures c.in-Some.ensures in
+    let feed : IsFirstFeed a.unread i = subst (λ (bytes : List ℕ). IsFirstFeed bytes i) c.unread-piece.ensures (first_feed _ i (cc c.in-Some.ensures.first)) in
     let rest : Ahead = record a { unread = drop (i + 1) a.unread } in
     fed_beyond _ (to_come rest) (p.0 ++ take i a.unread) c.args.room
     (omega (arith, p.1.1, c.count.ensures, c.if-i-room.true, length-append p.0 (take i a.unread), length-take-le i a.unread (omega (arith, feed.within))))
@@ -43,7 +42,7 @@ returns-in-Some-clause-found g c =
     let a = c.fill.new.self in
     let i = c.in-Some.i in
     let read = Consumes-kept (to_come c.args.ahead.now) (to_come c.loop-count.ahead) (to_come a) p.0 p.4 c.in-Ok.ensures.bytes in
-    let feed : IsFirstFeed a.unread i = subst (λ (bytes : List ℕ). IsFirstFeed bytes i) c.unread-piece.ensures c.in-Some.ensures in (
+    let feed : IsFirstFeed a.unread i = subst (λ (bytes : List ℕ). IsFirstFeed bytes i) c.unread-piece.ensures (first_feed _ i (cc c.in-Some.ensures.first)) in (
       p.0 ++ take i a.unread,
       (part_grows c.loop-count.line c.append.new.self p.0 (take i a.unread) p.1
           (c.append.ensures.part ∙ ap (λ (bytes : List ℕ). c.loop-count.line.part ++ take (4097 - length c.loop-count.line.part) (take i bytes)) c.unread-piece.ensures)
@@ -60,7 +59,7 @@ returns-then-count-room-clause-found g c =
     let read = Consumes-kept (to_come c.args.ahead.now) (to_come c.loop-count.ahead) (to_come a) p.0 p.4 c.in-Ok.ensures.bytes in
     let rest : Ahead = record a { unread = drop n a.unread } in
     let whole : take n a.unread ≡ a.unread = take_all n a.unread (omega (arith, c.in-Ok.ensures.count)) in
-    let clean : NoFeed a.unread = subst NoFeed c.unread-piece.ensures c.in-None.ensures in
+    let clean : NoFeed a.unread = subst NoFeed c.unread-piece.ensures (no_feed _ (cc c.in-None.ensures.first)) in
     let all = subst (λ (bytes : List ℕ). Consumes (to_come c.args.ahead.now) (to_come rest) (p.0 ++ bytes)) whole
     (Consumes-trans (to_come c.args.ahead.now) (to_come a) (to_come rest) p.0 (take n a.unread) read (skipped a rest n refl)) in
     unfed_beyond (to_come c.args.ahead.now) (to_come rest) (p.0 ++ a.unread) c.args.room all (NoFeed_append p.0 a.unread p.2 clean)
@@ -73,7 +72,7 @@ loop-count-preserved g c =
     let n = c.in-Ok.count in
     let read = Consumes-kept (to_come c.args.ahead.now) (to_come c.loop-count.ahead) (to_come a) p.0 p.4 c.in-Ok.ensures.bytes in
     let whole : take n a.unread ≡ a.unread = take_all n a.unread (omega (arith, c.in-Ok.ensures.count)) in
-    let clean : NoFeed a.unread = subst NoFeed c.unread-piece.ensures c.in-None.ensures in
+    let clean : NoFeed a.unread = subst NoFeed c.unread-piece.ensures (no_feed _ (cc c.in-None.ensures.first)) in
     let all = subst (λ (bytes : List ℕ). Consumes (to_come c.args.ahead.now) (to_come c.skip-in-None.new.self) (p.0 ++ bytes)) whole
     (Consumes-trans (to_come c.args.ahead.now) (to_come a) (to_come c.skip-in-None.new.self) p.0 (take n a.unread) read (skipped a c.skip-in-None.new.self n c.skip-in-None.ensures)) in
     record {

@@ -1,7 +1,7 @@
 use Rattle.std.proofs.Common.{◌≡◌, ◌-◌, ◌≤◌, ℕ, List, length}
 use Rattle.std.specs.Io.KnownBytes.{Consumes}
 use Rattle.wc_io.specs.Ahead.{to_come}
-use Rattle.wc_io.specs.Feeds.{NoFeed}
+use Rattle.wc_io.proofs.FeedLemmas.{NoFeed}
 use Rattle.wc_io.specs.Parts.{IsPartOf}
 use Rattle.wc_io.proofs.script_lines.collect.Given as goal
 

@@ -1,0 +1,3 @@
+pub mod MustLemmas
+pub mod SlotLemmas
+pub mod MayLemmas

@@ -1,0 +1,2 @@
+pub mod DualityLemmas
+pub mod WalkLemmas

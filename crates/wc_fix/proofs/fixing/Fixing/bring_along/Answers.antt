@@ -1,0 +1,27 @@
+use Rattle.std.proofs.Common.{◌≡◌, ℕ, List, [], None, false, length, drop, arith}
+use Rattle.std.specs.List.{slice_index_or}
+use Rattle.std.proofs.lemmas.List.{at_drop_all}
+use Rattle.wc_model.specs.declared.graphs.Step.{Step}
+use Rattle.wc_fix.proofs.FixingLemmas.{leads_more}
+use Rattle.wc_fix.proofs.fixing.Fixing.bring_along.Goals as goal
+
+nowhere : Step
+nowhere = record { source = 0; target = None; taken = false }
+
+pub loop-step-preserved : goal.loop-step-preserved
+unfolding nowhere
+loop-step-preserved g c =
+    let x = g.L.Lattice in
+    let laws = g.met.L.Lattice in
+    let old = c.args.self.now in
+    let now = c.loop-step.self in
+    let new = c.bring.new.self in
+    leads_more x.state x.shape x.lines x.rank x.precise laws.precise_refl laws.precise_trans x.accessed laws.access_keeps
+    c.args.after.now c.args.steps.now c.loop-step.step-index nowhere old.states.items old.waiting.items now.states.items now.waiting.items new.states.items new.waiting.items
+    c.loop-step-test.true c.requires.counted c.requires.targets c.in_ok-bring.ensures c.loop-step.invariant
+
+pub returns-clause-visit : goal.returns-clause-visit
+returns-clause-visit g c =
+    let i = c.loop-step.step-index in
+    let ends : drop i c.args.steps.now ≡ [] = at_drop_all (λ (xs : List Step). xs) c.args.steps.now i (omega (arith, c.loop-step-test.false)) in
+    λ problem node visit. rw ends at (c.loop-step.invariant.visits problem node visit)

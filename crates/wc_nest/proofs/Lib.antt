@@ -1,0 +1,10 @@
+pub mod ClassLemmas
+pub mod FlagLemmas
+pub mod HeadLemmas
+pub mod LevelLemmas
+pub mod ListLemmas
+pub mod ListingLemmas
+pub mod MarkingLemmas
+pub mod RelationLemmas
+pub mod RoundLemmas
+pub mod SearchLemmas

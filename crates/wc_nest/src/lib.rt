@@ -1,0 +1,13 @@
+//! The loop nest of a control-flow graph, level by level: the classes of nodes that lead to each other, and what is
+//! left inside them without the steps to their heads. After Steensgaard's nests as in Ramalingam 2002; the classes of a
+//! level are found by the path-based search of Gabow 2000.
+#![tactic(auto)]
+
+mod classes;
+mod entering;
+mod heads;
+mod inner;
+mod listing;
+mod marking;
+mod search;
+mod ways;

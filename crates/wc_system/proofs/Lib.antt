@@ -1,0 +1,5 @@
+pub mod CeilingLemmas
+pub mod ContextLemmas
+pub mod CountLemmas
+pub mod LoopLemmas
+pub mod TermLemmas
