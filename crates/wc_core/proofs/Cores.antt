@@ -17,12 +17,8 @@ use Rattle.wc_core.specs.Features.{Each}
 use Rattle.wc_core.specs.Fits.{FitsTicket, IsOpen, is_settled, names_needed}
 use Rattle.wc_core.specs.Holds.{Basis, Stock, opening_of, all_parts, row_of, asks_need, has_value, AreFeatures, WorkIs, IsCore}
 use Rattle.wc_core.specs.Views.{Known, KnownTicket, ask_with, value_of}
-<<<<<<< HEAD
 use Rattle.wc_model.proofs.StepLemmas.{some_same, if_some}
 use Rattle.wc_core.proofs.OpenAsks.{PinnedBy, and_left, and_right, session_within, pinned_at, keeps}
-=======
-use Rattle.wc_core.proofs.OpenAsks.{PinnedBy, some_same, if_some, and_left, and_right, session_within, pinned_at, keeps}
->>>>>>> origin/HEAD
 
 abbrev pub known : Basis → List Entry → Known
 known b h = record { opening = opening_of b; history = h }

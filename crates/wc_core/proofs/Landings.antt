@@ -21,12 +21,8 @@ use Rattle.wc_core.specs.Holds.{Basis, Stock, opening_of, row_of, entries_needed
 use Rattle.wc_core.specs.Views.{Known, KnownTicket, KnownLanded, ask_of, ask_with, kinds_held, landed_of, held}
 use Rattle.wc_core.proofs.Cores.{known, moved, restock, core_opened, IsAsked, IsStable, now_here, stamp_here}
 use Rattle.wc_core.proofs.Goings.{asked_when}
-<<<<<<< HEAD
 use Rattle.wc_model.proofs.StepLemmas.{some_same}
 use Rattle.wc_core.proofs.OpenAsks.{needed_same, needs_with, needs_at, pinned_with}
-=======
-use Rattle.wc_core.proofs.OpenAsks.{some_same, needed_same, needs_with, needs_at, pinned_with}
->>>>>>> origin/HEAD
 use Rattle.wc_core.proofs.Steps.{step_finish}
 use Rattle.wc_core.proofs.Stored.{same_number, stored_rows}
 use Rattle.wc_core.proofs.Values.{value_features, value_length}

@@ -12,16 +12,6 @@ use Rattle.wc_core.specs.Features.{Each}
 use Rattle.wc_core.specs.Fits.{IsOpen}
 use Rattle.wc_core.specs.Holds.{ask_needs, asks_need, entries_needed}
 use Rattle.wc_core.specs.Views.{Known, KnownTicket, ask_of, ask_with}
-<<<<<<< HEAD
-=======
-
-pub some_same : {A : Type 0} (a b : A) → Some a ≡ Some b → a ≡ b
-some_same a b p = cc
-
-pub if_some : {A : Type 0} (b : Bool) (x : Option A) (a : A) → (if b then x else None) ≡ Some a → (b ≡ true) × (x ≡ Some a)
-if_some true x a p = (refl, p)
-if_some false x a p = cc
->>>>>>> origin/HEAD
 
 pub and_left : (a b : Bool) → (a && b) ≡ true → a ≡ true
 and_left true b p = refl
