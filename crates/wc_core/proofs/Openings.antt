@@ -21,7 +21,7 @@ use Rattle.wc_core.specs.Holds.{Basis, Stock, opening_of, all_parts, stamp_from,
 use Rattle.wc_core.specs.Views.{Known}
 use Rattle.wc_core.proofs.Cores.{known, core_legal}
 use Rattle.wc_model.proofs.StepLemmas.{some_same}
-use Rattle.wc_core.proofs.OpenAsks.{PinnedBy, and_right, session_within}
+use Rattle.wc_core.proofs.OpenAsks.{PinnedBy}
 
 edits_of-facts : (number : ℕ) (facts : List Fact) → edits_of (map opening_entry (numbered number facts)) ≡ map Add facts
 edits_of-facts number [] = refl
