@@ -13,7 +13,7 @@ use wc_base::{Fault, FileWord, Trouble, UnbuiltWord};
 use wc_elf::read_image;
 use wc_f4::read_facts;
 use wc_hw::read_hardware;
-use wc_io::{House, ReadFile, read_file};
+use wc_io::{House, ReadWhole, read_file};
 use wc_model::{Cycles, Fact, Hardware, Image};
 
 /// The longest file that is read, in bytes.
@@ -71,9 +71,9 @@ fn load_bytes<H: House>(
 {
     match read_file(alloc, house, path, MOST_BYTES) {
         Ok(bytes) => Ok(bytes),
-        Err(ReadFile::Long) => Err(Unloaded::Refused(Fault::LongFile(word))),
-        Err(ReadFile::Failed) => Err(Unloaded::ReadFault),
-        Err(ReadFile::Memory(_)) => Err(Unloaded::Memory),
+        Err(ReadWhole::Long) => Err(Unloaded::Refused(Fault::LongFile(word))),
+        Err(ReadWhole::Failed) => Err(Unloaded::ReadFault),
+        Err(ReadWhole::Memory(_)) => Err(Unloaded::Memory),
     }
 }
 
