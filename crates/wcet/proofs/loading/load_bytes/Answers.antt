@@ -5,7 +5,8 @@ use Rattle.wcet.proofs.LoadingLemmas.{long_bytes, may_be}
 use Rattle.wcet.proofs.loading.load_bytes.Goals as goal
 
 pub returns-in-Ok-clause-file : goal.returns-in-Ok-clause-file
-returns-in-Ok-clause-file g c = (c.in-Ok.ensures.house.rows, (c.in-Ok.bytes.items, may_be _ _ _ c.in-Ok.ensures.bytes c.in-Ok.ensures.there, (c.in-Ok.ensures.short, refl)))
+returns-in-Ok-clause-file g c =
+    (c.in-Ok.ensures.house.rows, (c.in-Ok.bytes.items, may_be _ _ _ c.in-Ok.ensures.bytes c.in-Ok.ensures.there, (c.in-Ok.ensures.short, refl)))
 
 pub returns-in-Err-Long-clause-file : goal.returns-in-Err-Long-clause-file
 returns-in-Err-Long-clause-file g c =
