@@ -1,3 +1,0 @@
-pub mod MustLemmas
-pub mod SlotLemmas
-pub mod MayLemmas

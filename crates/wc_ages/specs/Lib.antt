@@ -1,3 +1,0 @@
-pub mod AgeLaws
-pub mod Slots
-pub mod States
