@@ -13,7 +13,9 @@ use Rattle.wcet.specs.Acyclic.Chain.{IsUnbuiltInsn, IsUnbuiltCode, faulty, unbui
 use Rattle.wcet.specs.Acyclic.Paths.{Reaches}
 use Rattle.wc_model.specs.Program.Positions.{Position, start_of}
 use Rattle.wc_model.specs.Program.Steps.{fault_at, insn_at, steps_of}
-use Rattle.wc_model.specs.Flow.Walks.{AreSteps, Reaches as Joins, IsWalk, walk_cost, IsCycle, IsAcyclicFrom, HasStep, IsBest}
+use Rattle.wc_model.specs.Program.Reaching.{Reaches as ReachesBy}
+use Rattle.wc_model.specs.Flow.Ends.{system_ends}
+use Rattle.wc_model.specs.Flow.Walks.{AreSteps, Joins, IsWalk, walk_cost, IsCycle, IsAcyclicFrom, HasStep, IsBest}
 use Rattle.wcet.specs.declared.chain.code.Code.{Code}
 use Rattle.wcet.specs.Exploring.{IsTarget, IsExplored}
 use Rattle.wcet.specs.Numbers.{IsNumbered}
@@ -30,7 +32,7 @@ module _ (image : Image) (facts : List Fact) (entry : ℕ) (hardware : Hardware)
   ads : List ℕ
   ads = code.addresses.items
 
-  pub are_steps : AreSteps (length code.addresses.items) code.steps.items
+  pub are_steps : AreSteps system_ends (length code.addresses.items) code.steps.items
   are_steps = record {
     sources = All-weaker (Contains code.steps.items) (λ (t : SystemStep). t.source < length code.addresses.items) (λ t among. let of = all.sound t among in slice_get_within code.addresses.items t.source of.at of.source) code.steps.items (All-contains_itself code.steps.items);
     targets = All-weaker (Contains code.steps.items) (λ (t : SystemStep). IfSome t.target (λ q. q < length code.addresses.items)) (λ t among. let of = all.sound t among in target_within code.addresses.items of.step.target t.target of.stands.target) code.steps.items (All-contains_itself code.steps.items);
@@ -47,25 +49,24 @@ module _ (image : Image) (facts : List Fact) (entry : ℕ) (hardware : Hardware)
   one_number : (j k a b : ℕ) → slice_get code.addresses.items j ≡ Some a → slice_get code.addresses.items k ≡ Some b → a ≡ b → j ≡ k
   one_number j k a b at_j at_k same = same_Some j k (sym (numbered.known a j at_j) ∙ ap (get nat_cmp code.numbers) same ∙ numbered.known b k at_k)
 
-  pub cycle_unbuilt : (k : ℕ) → IsCycle code.steps.items 0 k → IsUnbuiltCode image facts entry
+  pub cycle_unbuilt : (k : ℕ) → IsCycle (Joins system_ends code.steps.items) 0 k → IsUnbuiltCode image facts entry
   cycle_unbuilt k cycle =
       let at = joins_to_reaches image facts entry hardware.cycles code.addresses.items code.steps.items all 0 entry all.first cycle.0 in
       let led = cycle.1 in
-      let of = all.sound led.0 led.2 in
-      let same : of.at ≡ at.0 = same_Some of.at at.0 (sym of.source ∙ ap (slice_get code.addresses.items) led.3 ∙ at.1) in
-      let target = target_of_number code.addresses.items of.step.target led.0.target led.1 led.4 of.stands.target in
-      let rest = joins_to_reaches image facts entry hardware.cycles code.addresses.items code.steps.items all led.1 target.0 target.2 led.5 in
-      let back : rest.0 ≡ at.0 = same_Some rest.0 at.0 (sym rest.1 ∙ at.1) in
+      let way = joins_to_reaches image facts entry hardware.cycles code.addresses.items code.steps.items all k at.0 at.1 led.1 in
+      let last = led.2 in
+      let of = all.sound last.0 last.1 in
+      let same : of.at ≡ way.0 = same_Some of.at way.0 (sym of.source ∙ ap (slice_get code.addresses.items) last.2 ∙ way.1) in
+      let target = target_of_number code.addresses.items of.step.target last.0.target k last.3 of.stands.target in
+      let back : target.0 ≡ at.0 = same_Some target.0 at.0 (sym target.2 ∙ at.1) in
       loops (start_of at.0) at.2 (
-        of.step,
-        start_of target.0,
-        subst (λ (x : ℕ). Contains (steps_of image facts entry (start_of x)) of.step) same of.among,
-        target.1,
-        subst (λ (x : ℕ). Reaches image facts entry (start_of target.0) (start_of x)) back rest.2,
+        start_of way.0,
+        way.2,
+        (of.step, subst (λ (x : ℕ). Contains (steps_of image facts entry (start_of x)) of.step) same of.among, target.1 ∙ ap (λ (x : ℕ). Some (start_of x)) back),
       )
 
   -- nothing is left that isn't analysed
-  pub none_unbuilt : IsAcyclicFrom code.steps.items 0 → IsUnbuiltCode image facts entry → ⊥
+  pub none_unbuilt : IsAcyclicFrom (Joins system_ends code.steps.items) 0 → IsUnbuiltCode image facts entry → ⊥
   none_unbuilt acyclic (faulty p way fault) =
       let at = placed p way in
       let is = all.built at.0 at.1 (slice_get_within code.addresses.items at.0 at.1 at.3) at.3 in
@@ -77,15 +78,16 @@ module _ (image : Image) (facts : List Fact) (entry : ℕ) (hardware : Hardware)
       is.built (subst IsUnbuiltInsn is.known (subst (λ (x : Position). IsUnbuiltInsn (insn_at image x.pc)) at.2 control))
   none_unbuilt acyclic (loops p way led) =
       let at = reaches_to_joins image facts entry hardware.cycles code.addresses.items code.steps.items all 0 entry all.first way in
-      let of = all.complete at.0 at.1 led.0 (slice_get_within code.addresses.items at.0 at.1 at.3) at.3 (subst (λ (x : Position). Contains (steps_of image facts entry x) led.0) at.2 led.2) in
-      let target = number_of_target code.addresses.items led.0.target of.step.target led.1 led.3 of.stands.target in
-      let rest = reaches_to_joins image facts entry hardware.cycles code.addresses.items code.steps.items all target.0 led.1.pc target.3 (subst (λ (x : Position). Reaches image facts entry x p) target.2 led.4) in
-      let same : rest.1 ≡ at.1 = ap (λ (x : Position). x.pc) (sym rest.2 ∙ at.2) in
-      let back : rest.0 ≡ at.0 = one_number rest.0 at.0 rest.1 at.1 rest.3 at.3 same in
-      acyclic at.0 at.4 (of.step, target.0, of.among, of.source, target.1, subst (λ (k : ℕ). Joins code.steps.items target.0 k) back rest.4)
+      let last = led.2 in
+      let rest = reaches_to_joins image facts entry hardware.cycles code.addresses.items code.steps.items all at.0 at.1 at.3 (subst (λ (x : Position). Reaches image facts entry x led.0) at.2 led.1) in
+      let of = all.complete rest.0 rest.1 last.0 (slice_get_within code.addresses.items rest.0 rest.1 rest.3) rest.3 (subst (λ (x : Position). Contains (steps_of image facts entry x) last.0) rest.2 last.1) in
+      let target = number_of_target code.addresses.items last.0.target of.step.target p last.2 of.stands.target in
+      let same : p.pc ≡ at.1 = ap (λ (x : Position). x.pc) at.2 in
+      let back : target.0 ≡ at.0 = one_number target.0 at.0 p.pc at.1 target.3 at.3 same in
+      acyclic at.0 at.4 (rest.0, rest.4, (of.step, of.among, of.source, target.1 ∙ ap Some back))
   none_unbuilt acyclic (many ps apart count reached) = omega (arith, count, numbered.few, few ps code.addresses.items apart (All-weaker (Reaches image facts entry (start_of entry)) (λ (p : Position). (k : ℕ) × (a : ℕ) × (p ≡ start_of a) × (slice_get code.addresses.items k ≡ Some a)) placed ps reached))
 
-  pub all_lead : (k : ℕ) → Joins code.steps.items 0 k → HasStep code.steps.items k
+  pub all_lead : (k : ℕ) → ReachesBy (Joins system_ends code.steps.items) 0 k → HasStep code.steps.items k
   all_lead k way =
       let at = joins_to_reaches image facts entry hardware.cycles code.addresses.items code.steps.items all 0 entry all.first way in
       let within : k < length code.addresses.items = slice_get_within code.addresses.items k at.0 at.1 in

@@ -8,7 +8,7 @@ use Rattle.wc_model.specs.declared.instructions.Insn.{Insn}
 use Rattle.wc_model.specs.declared.machine.Cycles.{Cycles}
 use Rattle.wcet.specs.Acyclic.Chain.{IsUnbuiltInsn, IsUnbuiltCode, faulty, unbuilt}
 use Rattle.wc_model.specs.Program.Instruction.{insn_of}
-use Rattle.wcet.specs.Acyclic.Paths.{insn_cycles}
+use Rattle.wc_model.specs.Program.Paths.{insn_cycles}
 use Rattle.wc_model.specs.Program.Positions.{start_of}
 use Rattle.wc_model.specs.Program.Steps.{Step, control_fault, insn_fault, word_fault, fault_at, insn_at, insn_steps, steps_unless, steps_known, steps_of}
 use Rattle.wc_model.specs.Program.Words.{word_at}

@@ -11,7 +11,8 @@ use Rattle.wc_model.specs.declared.flow_system.SystemStep.{SystemStep}
 use Rattle.wc_model.specs.declared.instructions.Insn.{Insn}
 use Rattle.wc_model.specs.declared.machine.Cycles.{Cycles}
 use Rattle.wcet.specs.Acyclic.Chain.{IsUnbuiltCode}
-use Rattle.wcet.specs.Acyclic.Paths.{along, known_cycles, insn_cycles}
+use Rattle.wc_model.specs.Program.Paths.{known_cycles, insn_cycles}
+use Rattle.wc_model.specs.Program.Reaching.{along}
 use Rattle.wc_model.specs.Program.Positions.{Position, start_of}
 use Rattle.wc_model.specs.Program.Steps.{Step, insn_at, steps_of}
 use Rattle.wc_model.proofs.Places.{get_left, get_push_cases, get_within}
@@ -84,7 +85,7 @@ module _ (image : Image) (facts : List Fact) (entry : ℕ) (cycles : Cycles) (co
           first = kept 0 entry middle.core.first;
           reached = λ i b here_b. ⊎_elim
               (λ (old : slice_get ads i ≡ Some b). middle.core.reached i b old)
-              (λ (to : s.target ≡ Some (start_of b)). along s (start_of b) (middle.core.reached count at middle.placed) (middle.waiting s (contains_head s rest)) to)
+              (λ (to : s.target ≡ Some (start_of b)). along (start_of b) (middle.core.reached count at middle.placed) (s, middle.waiting s (contains_head s rest), to))
               (fresh i b here_b);
           built = λ i b less here_b. middle.core.built i b less (older i b (omega arith) here_b);
           sound = λ u among. ⊎_elim
@@ -144,7 +145,7 @@ module _ (image : Image) (facts : List Fact) (entry : ℕ) (cycles : Cycles) (co
     way_full old new taken Out cost rest numbered middle has = absurd has
     way_full old new taken (To target) cost rest numbered middle has =
         let s : Step = record { source = start_of at; target = Some (start_of target); taken = taken } in
-        too_many image facts entry old target numbered has middle.core.reached (along s (start_of target) (middle.core.reached count at middle.placed) (middle.waiting s (contains_head s rest)) refl)
+        too_many image facts entry old target numbered has middle.core.reached (along (start_of target) (middle.core.reached count at middle.placed) (s, middle.waiting s (contains_head s rest), refl))
 
 pub way_numbered : (old new : Code) (count : ℕ) (way : Way) (cost : ℕ) → IsNumbered old → HasWay old new count way cost true → IsNumbered new
 way_numbered old new count Closed cost numbered has = subst IsNumbered (sym has) numbered

@@ -6,7 +6,8 @@ use Rattle.wc_model.specs.declared.elf_image.Image.{Image}
 use Rattle.wc_model.specs.declared.flow_facts.Fact.{Fact}
 use Rattle.wc_model.specs.declared.flow_system.SystemStep.{SystemStep}
 use Rattle.wc_model.specs.declared.machine.Cycles.{Cycles}
-use Rattle.wcet.specs.Acyclic.Paths.{Reaches, here}
+use Rattle.wc_model.specs.Program.Reaching.{here}
+use Rattle.wcet.specs.Acyclic.Paths.{Reaches}
 use Rattle.wc_model.specs.Program.Positions.{start_of}
 use Rattle.wcet.specs.declared.chain.code.Code.{Code}
 use Rattle.wcet.specs.Exploring.{IsExplored}

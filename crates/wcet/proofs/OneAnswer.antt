@@ -11,11 +11,12 @@ use Rattle.wc_hw.proofs.OneReading.{no_fault, no_cache}
 use Rattle.wc_model.specs.declared.elf_image.Image.{Image}
 use Rattle.wc_model.specs.declared.elf_image.Name.{Name}
 use Rattle.wc_model.specs.declared.flow_facts.Fact.{Fact}
+use Rattle.wc_model.specs.Workspace.Edits.{is_checksum}
 use Rattle.wc_model.specs.Workspace.Hardware.{default_hardware}
 use Rattle.wc_model.specs.Program.Image.{names_of as names_in}
 use Rattle.wc_model.specs.Program.Words.{address_of, is_called}
 use Rattle.wcet.specs.declared.loading.Loaded.{Loaded}
-use Rattle.wcet.specs.Files.{MayBe, Holds, IsTold, Within, ImageSays, TimingSays, FactsSay, is_checksum, FileSays, OptionalSays, BinarySays, FactsFileSays, AreTold, AreInputs, IsFirstFault, of_binary, of_hardware, of_facts}
+use Rattle.wcet.specs.Files.{MayBe, Holds, IsTold, Within, ImageSays, TimingSays, FactsSay, FileSays, OptionalSays, BinarySays, FactsFileSays, AreTold, AreInputs, IsFirstFault, of_binary, of_hardware, of_facts}
 use Rattle.wcet.specs.Words.{Paths}
 
 -- no bytes have both a value and a fault

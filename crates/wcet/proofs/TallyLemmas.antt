@@ -1,6 +1,10 @@
 -- The runs of the one work are the starts of a history in which no run is out.
-use Rattle.std.proofs.Common.{◌≡◌, ℕ, zero, suc, ◌+◌, ◌==◌, Bool, true, false, not, ◌&&◌, ◌||◌, is_none, List, [], ◌∷◌, ◌++◌, take, drop, length, Option, None, Some, refl, sym, ap, subst, ◌∙◌, arith, if◌then◌else◌, eqb-true, take-append-drop}
+use Rattle.std.proofs.Common.{◌≡◌, ℕ, zero, suc, ◌+◌, ◌-◌, ◌<◌, ◌==◌, Bool, true, false, not, ◌&&◌, ◌||◌, is_none, List, [], ◌∷◌, ◌++◌, map, take, drop, length, Option, None, Some, refl, sym, ap, subst, ◌∙◌, arith, if◌then◌else◌, eqb-true, take-append-drop}
 use Rattle.std.specs.Prelude.{All}
+use Rattle.std.specs.List.{list_all}
+use Rattle.std.proofs.lemmas.List.{take_more}
+use Rattle.std.proofs.lemmas.Option.{slice_get_within, get_or_from_slice_get}
+use Rattle.std.proofs.Math.Seq.{take-length}
 use Rattle.wc_model.specs.declared.elf_image.Image.{Image}
 use Rattle.wc_model.specs.declared.entries.End.{End}
 use Rattle.wc_model.specs.declared.entries.Entry.{Entry}
@@ -9,12 +13,13 @@ use Rattle.wc_model.specs.declared.flow_facts.Fact.{Fact}
 use Rattle.wc_model.specs.declared.machine.Hardware.{Hardware}
 use Rattle.wc_model.specs.declared.values.Outcome.{Outcome}
 use Rattle.wc_model.specs.Workspace.Closures.{has_kind, order_of}
-use Rattle.wc_model.specs.Workspace.History.{bound_kind, step, replay, opened, opening_entries, fact_entries, allow, can_start, after_start, start_step, can_finish, after_finish, finish_step, can_answer, answer_step, all_within_reach, before, right_end, taken, can_edit, is_live, after_edit, after_pin}
-use Rattle.wc_model.specs.Workspace.States.{Opening, State, Run, Ask, start, home_of, with_home, own_run, without_own, open_ask, is_free, same_name, stamp_at, count_of, inputs_at, within_reach, is_out, with_ask}
+use Rattle.wc_model.specs.Workspace.Edits.{numbered}
+use Rattle.wc_model.specs.Workspace.History.{bound_kind, before, key_with, may_edit, may_refuse, may_pin, may_list, after_edit, after_pin, right_end, allow, step, replay, opened, opening_entries, opening_entry}
+use Rattle.wc_model.specs.Workspace.States.{Opening, Key, State, Run, start, home_of, with_home, last_of, all_but_last, own_run, without_own, same_key, stamp_at, count_of, within_reach, is_out}
+use Rattle.wc_model.proofs.StepLemmas.{some_same, allowed, started, finished, answered, IsStart}
 use Rattle.wc_core.specs.Answers.{RunsNothing, AreRuns}
 use Rattle.wc_core.specs.Features.{Each}
 use Rattle.wc_core.specs.Holds.{bound_alone, plain_opening}
-use Rattle.wc_model.proofs.StepLemmas.{some_same, if_some}
 use Rattle.wcet.specs.ReportText.{IsOfKinds}
 use Rattle.wcet.specs.Starts.{starts_of, all_starts, bound_runs}
 
@@ -32,12 +37,23 @@ abbrev total : List ℕ → ℕ
 total [] = 0
 total (n ∷ ns) = n + total ns
 
+total_snoc : (ns : List ℕ) (n : ℕ) → total (ns ++ n ∷ []) ≡ total ns + n
+total_snoc [] n = omega arith
+total_snoc (m ∷ ns) n = let more = total_snoc ns n in omega (arith, more)
+
+-- the work that goes out is the last one
+last_total : (ns : List ℕ) (n : ℕ) → last_of ns ≡ Some n → total ns ≡ total (all_but_last ns) + n
+last_total ns n last =
+    let within : length ns - 1 < length ns = slice_get_within ns (length ns - 1) n last in
+    let parts : ns ≡ all_but_last ns ++ n ∷ [] = sym (take-length ns) ∙ ap (λ (k : ℕ). take k ns) (let more : length ns ≡ length ns - 1 + 1 = omega arith in more) ∙ take_more ns (length ns - 1) n within ∙ ap (λ (k : ℕ). all_but_last ns ++ k ∷ []) (get_or_from_slice_get ns (length ns - 1) n n last) in
+    ap total parts ∙ total_snoc (all_but_last ns) n
+
 abbrev flying : List Run → ℕ
 flying [] = 0
 flying (r ∷ rs) = (r.runs + 1) + flying rs
 
 abbrev IsOfBound : Run → Type 0
-IsOfBound r = r.kind ≡ bound_kind
+IsOfBound r = r.key.kind ≡ bound_kind
 
 record Tally (st : State) (starts : ℕ) : Type 0 where
   pub runs : List ℕ
@@ -54,7 +70,7 @@ each_snoc [] r each is = (is, tt)
 each_snoc (x ∷ rs) r each is = (each.0, each_snoc rs r each.1 is)
 
 record IsTakenOut (out : List Run) (session : ℕ) (run : Run) : Type 0 where
-  pub kind : run.kind ≡ bound_kind
+  pub kind : run.key.kind ≡ bound_kind
   pub rest : Each IsOfBound (without_own session out)
   pub count : flying out ≡ (run.runs + 1) + flying (without_own session out)
 
@@ -82,17 +98,14 @@ taken_out [] session run each is = absurd (cc)
 taken_out (r ∷ rs) session run each is = taken_case r rs session run (taken_out rs session run) each (r.session == session) refl is
 
 -- tests of starts and of finishes
-fifth : (a b c d e f g h i : Bool) → (a && b && c && d && e && f && g && h && i) ≡ true → e ≡ true
-fifth a b c d true f g h i is = refl
-fifth false b c d false f g h i is = absurd (cc)
-fifth true false c d false f g h i is = absurd (cc)
-fifth true true false d false f g h i is = absurd (cc)
-fifth true true true false false f g h i is = absurd (cc)
-fifth true true true true false f g h i is = absurd (cc)
+kind_known : (a b rest last : Bool) → (a && b && rest && last) ≡ true → b ≡ true
+kind_known a true rest last is = refl
+kind_known false false rest last is = absurd (cc)
+kind_known true false rest last is = absurd (cc)
 
-first_of_four : (a b c d : Bool) → (a && b && c && d) ≡ true → a ≡ true
-first_of_four true b c d is = refl
-first_of_four false b c d is = absurd (cc)
+first_of : (a b : Bool) → (a && b) ≡ true → a ≡ true
+first_of true b is = refl
+first_of false b is = absurd (cc)
 
 or_none : (b : Bool) → (b || false) ≡ true → b ≡ true
 or_none true is = refl
@@ -111,59 +124,51 @@ home_with home runs now kind is one = ap (λ (k : ℕ). with_home k now home) is
 
 module _ (o : Opening) (alone : o.kinds ≡ bound_alone ∷ []) (st : State) (n : ℕ) (t : Tally st n) where
   -- the work that goes out is counted with the run that it makes
-  goes_out : (st' : State) (ask : Ask) (session kind : ℕ) (name : List ℕ) (stamp : ℕ) → kind ≡ bound_kind → (list : List ℕ) → list ≡ t.runs
-      → after_start o st ask session kind name stamp list ≡ Some st' → Tally st' (n + 1)
-  goes_out st' ask session kind name stamp is [] same goes = absurd (cc)
-  goes_out st' ask session kind name stamp is (runs ∷ rest) same goes =
-      let out : Run = record { session = session; kind = kind; name = name; stamp = stamp; runs = runs } in
-      let gone : State = record st { home = with_home kind rest st.home; out = st.out ++ out ∷ []; asks = with_ask session (Some (record ask { kinds = ask.kinds ++ taken o st ask })) st.asks } in
-      let all : total t.runs ≡ runs + total rest = ap total (sym same) in
-      subst (λ (s : State). Tally s (n + 1)) (some_same gone st' goes) (record {
+  goes_out : (st' : State) (session : ℕ) (key : Key) → key.kind ≡ bound_kind → IsStart o st st' session key → Tally st' (n + 1)
+  goes_out st' session key is start =
+      let out : Run = record { session = session; key = key; runs = start.runs } in
+      let rest : List ℕ = all_but_last (home_of key.kind st.home) in
+      let home : home_of key.kind st.home ≡ t.runs = home_runs st.home t.runs key.kind is t.home_is in
+      let all : total t.runs ≡ total rest + start.runs = ap total (sym home) ∙ last_total (home_of key.kind st.home) start.runs start.last in
+      subst (λ (s : State). Tally s (n + 1)) start.new_is (record {
         runs = rest;
-        home_is = home_with st.home t.runs rest kind is t.home_is;
+        home_is = home_with st.home t.runs rest key.kind is t.home_is;
         alone = each_snoc st.out out t.alone is;
         count = omega (arith, all, t.count, flying_snoc st.out out);
       })
 
-  started : (st' : State) (session kind : ℕ) (name : List ℕ) (stamp : ℕ) (ask : Option Ask) → start_step o st session kind name stamp ask ≡ Some st' → Tally st' (n + 1) × (kind ≡ bound_kind)
-  started st' session kind name stamp None goes = absurd (cc)
-  started st' session kind name stamp (Some ask) goes =
-      let may = if_some (can_start o st ask session kind name stamp) (after_start o st ask session kind name stamp (home_of kind st.home)) st' goes in
-      let is = only_kind o kind alone (fifth (same_name ask.name name) (not ask.memory) (is_none (own_run session st.out)) (stamp == stamp_at o st kind ask.at) (has_kind kind (order_of o.kinds)) (not (within_reach o st ask kind)) (not (within_reach o st ask bound_kind)) (all_within_reach o st ask (before kind (order_of o.kinds))) (not (is_out kind name stamp st.out)) may.0) in
-      (goes_out st' ask session kind name stamp is (home_of kind st.home) (home_runs st.home t.runs kind is t.home_is) may.1, is)
+  starts_bound : (st' : State) (session kind : ℕ) (name : List ℕ) (stamp : ℕ) → step o st (entry.Start session kind name stamp) ≡ Some st' → Tally st' (n + 1) × (kind ≡ bound_kind)
+  starts_bound st' session kind name stamp goes =
+      let start = started o st st' session kind name stamp goes in
+      let is = only_kind o kind alone (kind_known _ (has_kind kind (order_of o.kinds)) (list_all (within_reach o st start.ask) (before kind (order_of o.kinds))) (not (is_out (key_with kind name stamp) st.out)) start.may) in
+      (goes_out st' session (key_with kind name stamp) is start, is)
 
-  finished : (st' : State) (session kind : ℕ) (name : List ℕ) (stamp : ℕ) (end : End) (ask : Option Ask) (run : Option Run) → own_run session st.out ≡ run
-      → finish_step o st session kind name stamp end ask run ≡ Some st' → Tally st' n × (kind ≡ bound_kind)
-  finished st' session kind name stamp end None None own goes = absurd (cc)
-  finished st' session kind name stamp end None (Some run) own goes = absurd (cc)
-  finished st' session kind name stamp end (Some ask) None own goes = absurd (cc)
-  finished st' session kind name stamp end (Some ask) (Some run) own goes =
-      let back : State = after_finish st ask run session kind name stamp end in
-      let may = if_some (can_finish o st run kind name stamp end) (Some back) st' goes in
-      let out = taken_out st.out session run t.alone own in
-      let is : kind ≡ bound_kind = sym (eqb-true run.kind kind (first_of_four (run.kind == kind) (same_name run.name name) (run.stamp == stamp) (right_end end (stamp == stamp_at o st kind (count_of st))) may.0)) ∙ out.kind in
-      let next = some_same back st' may.1 in
-      let runs : home_of kind st.home ≡ t.runs = home_runs st.home t.runs kind is t.home_is in (
-        subst (λ (s : State). Tally s n) next (record {
-          runs = (run.runs + 1) ∷ home_of kind st.home;
-          home_is = home_with st.home t.runs ((run.runs + 1) ∷ home_of kind st.home) kind is t.home_is;
+  finishes_bound : (st' : State) (session kind : ℕ) (name : List ℕ) (stamp : ℕ) (end : End) → step o st (entry.Finish session kind name stamp end) ≡ Some st' → Tally st' n × (kind ≡ bound_kind)
+  finishes_bound st' session kind name stamp end goes =
+      let done = finished o st st' session kind name stamp end goes in
+      let run : Run = done.run in
+      let out = taken_out st.out session run t.alone done.own in
+      let key : same_key run.key (key_with kind name stamp) ≡ true = first_of (same_key run.key (key_with kind name stamp)) (right_end end (stamp == stamp_at o st kind (count_of st))) done.may in
+      let is : kind ≡ bound_kind = sym (eqb-true run.key.kind kind (first_of (run.key.kind == kind) _ (first_of _ (run.key.stamp == stamp) key))) ∙ out.kind in
+      let home : home_of kind st.home ≡ t.runs = home_runs st.home t.runs kind is t.home_is in
+      let back : List ℕ = home_of kind st.home ++ (run.runs + 1) ∷ [] in (
+        subst (λ (s : State). Tally s n) done.new_is (record {
+          runs = back;
+          home_is = home_with st.home t.runs back kind is t.home_is;
           alone = out.rest;
-          count = omega (arith, ap total runs, t.count, out.count);
+          count = omega (arith, total_snoc (home_of kind st.home) (run.runs + 1), ap total home, t.count, out.count);
         }),
         is,
       )
 
-  answered : (st' : State) (session : ℕ) (name : List ℕ) (at : ℕ) (outcome : Outcome) (ask : Option Ask) → answer_step o st session name at outcome ask ≡ Some st' → Tally st' n
-  answered st' session name at outcome None goes = absurd (cc)
-  answered st' session name at outcome (Some ask) goes =
-      let closed : State = record st { asks = with_ask session None st.asks } in
-      let may = if_some (can_answer o st ask session name at outcome) (Some closed) st' goes in
-      subst (λ (s : State). Tally s n) (some_same closed st' may.1) (record { runs = t.runs; home_is = t.home_is; alone = t.alone; count = t.count })
+  answers_bound : (st' : State) (session : ℕ) (name : List ℕ) (at : ℕ) (outcome : Outcome) → step o st (entry.Answer session name at outcome) ≡ Some st' → Tally st' n
+  answers_bound st' session name at outcome goes =
+      let done = answered o st st' session name at outcome goes in
+      subst (λ (s : State). Tally s n) done.new_is (record { runs = t.runs; home_is = t.home_is; alone = t.alone; count = t.count })
 
-  allowed : (legal : Bool) (next st' : State) → next.home ≡ st.home → next.out ≡ st.out → allow legal next ≡ Some st' → Tally st' n
-  allowed legal next st' home out goes =
-      let may = if_some legal (Some next) st' goes in
-      subst (λ (s : State). Tally s n) (some_same next st' may.1) (record {
+  stays : (legal : Bool) (next st' : State) → next.home ≡ st.home → next.out ≡ st.out → allow legal next ≡ Some st' → Tally st' n
+  stays legal next st' home out goes =
+      subst (λ (s : State). Tally s n) (allowed legal next st' goes).1 (record {
         runs = t.runs;
         home_is = home ∙ t.home_is;
         alone = subst (Each IsOfBound) (sym out) t.alone;
@@ -188,15 +193,15 @@ module _ (o : Opening) (alone : o.kinds ≡ bound_alone ∷ []) where
   plus_none st n t = let same : n ≡ n + 0 = omega arith in subst (λ (m : ℕ). Tally st m) same t
 
   stepped_tally : (st st' : State) (n : ℕ) (t : Tally st n) (e : Entry) → step o st e ≡ Some st' → Tally st' (n + starts_in e) × IsBoundEntry e
-  stepped_tally st st' n t (entry.Edit session count edit) goes = (plus_none st' n (allowed o alone st n t (is_free o st session && count == count_of st + 1 && can_edit edit (inputs_at o st (count_of st))) (after_edit o st edit) st' refl refl goes), tt)
-  stepped_tally st st' n t (entry.NoFact session number at) goes = (plus_none st' n (allowed o alone st n t (is_free o st session && at == count_of st && not (is_live number (inputs_at o st (count_of st)))) st st' refl refl goes), tt)
-  stepped_tally st st' n t (entry.Pin session name at) goes = (plus_none st' n (allowed o alone st n t (is_free o st session && at == count_of st) (after_pin st session name) st' refl refl goes), tt)
-  stepped_tally st st' n t (entry.List session at) goes = (plus_none st' n (allowed o alone st n t (is_free o st session && at == count_of st) st st' refl refl goes), tt)
-  stepped_tally st st' n t (entry.Start session kind name stamp) goes = started o alone st n t st' session kind name stamp (open_ask o st session) goes
+  stepped_tally st st' n t (entry.Edit session count edit) goes = (plus_none st' n (stays o alone st n t (may_edit o st session count edit) (after_edit o st edit) st' refl refl goes), tt)
+  stepped_tally st st' n t (entry.NoFact session number at) goes = (plus_none st' n (stays o alone st n t (may_refuse o st session number at) st st' refl refl goes), tt)
+  stepped_tally st st' n t (entry.Pin session name at) goes = (plus_none st' n (stays o alone st n t (may_pin o st session at) (after_pin st session name) st' refl refl goes), tt)
+  stepped_tally st st' n t (entry.List session at) goes = (plus_none st' n (stays o alone st n t (may_list o st session at) st st' refl refl goes), tt)
+  stepped_tally st st' n t (entry.Start session kind name stamp) goes = starts_bound o alone st n t st' session kind name stamp goes
   stepped_tally st st' n t (entry.Finish session kind name stamp end) goes =
-      let done = finished o alone st n t st' session kind name stamp end (open_ask o st session) (own_run session st.out) refl goes in
+      let done = finishes_bound o alone st n t st' session kind name stamp end goes in
       (plus_none st' n done.0, done.1)
-  stepped_tally st st' n t (entry.Answer session name at outcome) goes = (plus_none st' n (answered o alone st n t st' session name at outcome (open_ask o st session) goes), tt)
+  stepped_tally st st' n t (entry.Answer session name at outcome) goes = (plus_none st' n (answers_bound o alone st n t st' session name at outcome goes), tt)
 
   nothing_on : (es : List Entry) → replay o None es ≡ None
   nothing_on [] = refl
@@ -254,13 +259,13 @@ all_of_kinds (e ∷ es) each zero d within = is_of_kinds e each.0
 all_of_kinds (e ∷ es) each (suc k) d within = all_of_kinds es each.1 k d (omega arith)
 
 -- the opening edits start nothing
-opened_each : (count : ℕ) (facts : List Fact) (es : List Entry) → Each IsBoundEntry es → Each IsBoundEntry (fact_entries count facts ++ es)
-opened_each count [] es each = each
-opened_each count (f ∷ fs) es each = (tt, opened_each (count + 1) fs es each)
+opened_each : (number : ℕ) (facts : List Fact) (es : List Entry) → Each IsBoundEntry es → Each IsBoundEntry (map opening_entry (numbered number facts) ++ es)
+opened_each number [] es each = each
+opened_each number (f ∷ fs) es each = (tt, opened_each (number + 1) fs es each)
 
-opened_in : (count : ℕ) (facts : List Fact) (es : List Entry) → all_in (fact_entries count facts ++ es) ≡ all_in es
-opened_in count [] es = refl
-opened_in count (f ∷ fs) es = let more = opened_in (count + 1) fs es in omega (arith, more)
+opened_in : (number : ℕ) (facts : List Fact) (es : List Entry) → all_in (map opening_entry (numbered number facts) ++ es) ≡ all_in es
+opened_in number [] es = refl
+opened_in number (f ∷ fs) es = let more = opened_in (number + 1) fs es in omega (arith, more)
 
 -- the opening entries and then those that are replayed
 split : (o : Opening) (history : List Entry) → take (opened o) history ≡ opening_entries o → history ≡ opening_entries o ++ drop (opened o) history

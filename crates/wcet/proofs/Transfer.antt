@@ -6,10 +6,12 @@ use Rattle.wc_model.specs.declared.elf_image.Image.{Image}
 use Rattle.wc_model.specs.declared.flow_facts.Fact.{Fact}
 use Rattle.wc_model.specs.declared.flow_system.SystemStep.{SystemStep}
 use Rattle.wc_model.specs.declared.machine.Cycles.{Cycles}
-use Rattle.wcet.specs.Acyclic.Paths.{Reaches, here, along, IsPath, path_cycles}
+use Rattle.wcet.specs.Acyclic.Paths.{Reaches, IsPath, path_cycles}
 use Rattle.wc_model.specs.Program.Positions.{Position, start_of}
 use Rattle.wc_model.specs.Program.Steps.{Step, steps_of}
-use Rattle.wc_model.specs.Flow.Walks.{Reaches as Joins, here as joined, along as joins, IsWalk, walk_cost}
+use Rattle.wc_model.specs.Program.Reaching.{Reaches as ReachesBy, here, along}
+use Rattle.wc_model.specs.Flow.Ends.{system_ends}
+use Rattle.wc_model.specs.Flow.Walks.{Joins, IsWalk, walk_cost}
 use Rattle.wcet.specs.Exploring.{IsTarget, IsExplored}
 use Rattle.wcet.proofs.Definitions.{step_source}
 
@@ -39,22 +41,22 @@ number_of_exit ads None (Some q) is stands = absurd stands
 number_of_exit ads (Some p) q is stands = absurd (none-some p (sym is))
 
 module _ (image : Image) (facts : List Fact) (entry : ℕ) (cycles : Cycles) (ads : List ℕ) (steps : List SystemStep) (all : IsExplored image facts entry cycles (length ads) ads steps) where
-  pub joins_to_reaches : (j b : ℕ) {k : ℕ} → slice_get ads j ≡ Some b → Joins steps j k → (a : ℕ) × (slice_get ads k ≡ Some a) × Reaches image facts entry (start_of b) (start_of a)
-  joins_to_reaches j b at joined = (b, at, here)
-  joins_to_reaches j b at (joins t r way among source to) =
+  pub joins_to_reaches : (j b : ℕ) {k : ℕ} → slice_get ads j ≡ Some b → ReachesBy (Joins system_ends steps) j k → (a : ℕ) × (slice_get ads k ≡ Some a) × Reaches image facts entry (start_of b) (start_of a)
+  joins_to_reaches j b at here = (b, at, here)
+  joins_to_reaches j b at (along r way (t, among, source, to)) =
       let before = joins_to_reaches j b at way in
       let of = all.sound t among in
       let same : of.at ≡ before.0 = same_Some of.at before.0 (sym of.source ∙ ap (slice_get ads) source ∙ before.1) in
       let target = target_of_number ads of.step.target t.target r to of.stands.target in
-      (target.0, target.2, along of.step (start_of target.0) before.2 (subst (λ (x : ℕ). Contains (steps_of image facts entry (start_of x)) of.step) same of.among) target.1)
+      (target.0, target.2, along (start_of target.0) before.2 (of.step, subst (λ (x : ℕ). Contains (steps_of image facts entry (start_of x)) of.step) same of.among, target.1))
 
-  pub reaches_to_joins : (j b : ℕ) {p : Position} → slice_get ads j ≡ Some b → Reaches image facts entry (start_of b) p → (k : ℕ) × (a : ℕ) × (p ≡ start_of a) × (slice_get ads k ≡ Some a) × Joins steps j k
-  reaches_to_joins j b at here = (j, b, refl, at, joined)
-  reaches_to_joins j b at (along s r way among to) =
+  pub reaches_to_joins : (j b : ℕ) {p : Position} → slice_get ads j ≡ Some b → Reaches image facts entry (start_of b) p → (k : ℕ) × (a : ℕ) × (p ≡ start_of a) × (slice_get ads k ≡ Some a) × ReachesBy (Joins system_ends steps) j k
+  reaches_to_joins j b at here = (j, b, refl, at, here)
+  reaches_to_joins j b at (along r way (s, among, to)) =
       let before = reaches_to_joins j b at way in
       let of = all.complete before.0 before.1 s (slice_get_within ads before.0 before.1 before.3) before.3 (subst (λ (x : Position). Contains (steps_of image facts entry x) s) before.2 among) in
       let target = number_of_target ads s.target of.step.target r to of.stands.target in
-      (target.0, r.pc, target.2, target.3, joins of.step target.0 before.4 of.among of.source target.1)
+      (target.0, r.pc, target.2, target.3, along target.0 before.4 (of.step, of.among, of.source, target.1))
 
   pub path_to_walk : (path : List Step) (k a : ℕ) → slice_get ads k ≡ Some a → IsPath image facts entry (start_of a) path → (walk : List SystemStep) × IsWalk steps (Some k) walk × (walk_cost walk ≡ path_cycles image cycles path)
   path_to_walk [] k a at is = absurd is

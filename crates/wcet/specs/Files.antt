@@ -11,8 +11,8 @@ use Rattle.wc_f4.specs.Reading.{ReadsFacts, names_of}
 use Rattle.wc_hw.specs.Reading.{ReadsAs}
 use Rattle.wc_model.specs.declared.elf_image.Image.{Image}
 use Rattle.wc_model.specs.declared.flow_facts.Fact.{Fact}
-use Rattle.wc_model.specs.declared.flow_facts.Fact.TheVariants.{Checksum}
 use Rattle.wc_model.specs.declared.machine.Hardware.{Hardware}
+use Rattle.wc_model.specs.Workspace.Edits.{is_checksum}
 use Rattle.wc_model.specs.Workspace.Hardware.{default_hardware}
 use Rattle.wc_model.specs.Program.Image.{image_fault, IsImageOf}
 use Rattle.wcet.specs.declared.loading.Loaded.{Loaded}
@@ -45,10 +45,6 @@ ImageSays bytes (Err fault) = image_fault bytes ≡ Some fault
 abbrev pub TimingSays : List ℕ → Result Hardware FaultCode → Type 0
 TimingSays bytes (Ok hardware) = ReadsAs bytes (Ok hardware) × (hardware.cache ≡ None)
 TimingSays bytes (Err fault) = ReadsAs bytes (Err (Refused fault)) ⊎ ((hardware : Hardware) × ReadsAs bytes (Ok hardware) × IsSome hardware.cache × (fault ≡ Unbuilt Icache))
-
-abbrev pub is_checksum : Fact → Bool
-is_checksum (Checksum name value) = true
-is_checksum _ = false
 
 -- the facts, a fault of their text, or one that is no checksum, which isn't analysed yet; names are those of the image
 abbrev pub FactsSay : Image → List ℕ → Result (List Fact) FaultCode → Type 0

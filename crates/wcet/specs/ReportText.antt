@@ -1,5 +1,5 @@
 -- The report of a shared history: its entries in order, how often each kind's works ran, and how each session ended.
-use Rattle.std.specs.Prelude.{ℕ, ◌+◌, ◌-◌, ◌≤◌, List, [], ◌∷◌, ◌++◌, length, codes, decimal, slice_index_or}
+use Rattle.std.specs.Prelude.{ℕ, ◌+◌, ◌≤◌, List, [], ◌∷◌, ◌++◌, length, codes, decimal}
 use Rattle.wc_base.specs.FaultTexts.{fault_text}
 use Rattle.wc_f4.specs.FactText.{fact_text}
 use Rattle.wc_hw.specs.HardwareText.{hardware_text}
@@ -13,15 +13,7 @@ use Rattle.wc_model.specs.declared.inputs.Edit.{Edit}
 use Rattle.wc_model.specs.declared.inputs.Edit.TheVariants as edit
 use Rattle.wc_model.specs.declared.values.Outcome.{Outcome}
 use Rattle.wc_model.specs.declared.values.Outcome.TheVariants as outcome
-
--- the names of the kinds from 1 on
-abbrev pub kind_names : List (List ℕ)
-kind_names =
-    codes "GRAPH" ∷ codes "NEST" ∷ codes "BOUNDS" ∷ codes "LINES" ∷ codes "MUST" ∷ codes "MAY"
-    ∷ codes "CATEGORY" ∷ codes "COST" ∷ codes "SYSTEM" ∷ codes "SOLUTION" ∷ codes "BOUND" ∷ []
-
-abbrev pub kind_name : ℕ → List ℕ
-kind_name kind = slice_index_or kind_names (kind - 1) []
+use Rattle.wc_model.specs.Workspace.KindNames.{kind_name}
 
 abbrev pub edit_text : Edit → List ℕ
 edit_text (edit.Add fact) = codes "add " ++ fact_text fact

@@ -2,6 +2,7 @@
 use Rattle.std.specs.Prelude.{ℕ, ◌+◌, ◌==◌, if◌then◌else◌, List, [], ◌∷◌, map}
 use Rattle.wc_model.specs.declared.entries.Entry.{Entry}
 use Rattle.wc_model.specs.declared.entries.Entry.TheVariants.{Edit, NoFact, Pin, Start, Finish, Answer, List as ListEntry}
+use Rattle.wc_model.specs.Workspace.KindNames.{all_kinds}
 
 abbrev pub starts_of : ℕ → List Entry → ℕ
 starts_of kind [] = 0
@@ -15,7 +16,7 @@ starts_of kind (ListEntry _ _ ∷ es) = starts_of kind es
 
 -- those of the eleven kinds, in their order
 abbrev pub all_starts : List Entry → List ℕ
-all_starts history = map (λ kind. starts_of kind history) (1 ∷ 2 ∷ 3 ∷ 4 ∷ 5 ∷ 6 ∷ 7 ∷ 8 ∷ 9 ∷ 10 ∷ 11 ∷ [])
+all_starts history = map (λ kind. starts_of kind history) all_kinds
 
 -- a work of the bound alone ran so often
 abbrev pub bound_runs : ℕ → List ℕ

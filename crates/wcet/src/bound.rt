@@ -18,24 +18,12 @@ use crate::words::{BoundCall, bound_call};
 use std::alloc::{AllocError, Global};
 use std::thread::Threads;
 use wc_io::{House, Sink};
-use wc_model::{Fact, Facts, Outcome};
-
-// The facts with the numbers that they have where a workspace is opened: edit 1 is the hardware.
-fn numbered(alloc: Global, facts: Vec<Fact>) -> Result<Facts, AllocError>
-    ensures { IfOk result (λ numbered. map (λ f. f.1) numbered ≡ facts.items) }
-{
-    let mut items = Vec::with_capacity(alloc, facts.len())?;
-    for fact in facts {
-        let number = items.len() as u64 + 2;
-        items.push((number, fact))?;
-    }
-    Ok(Facts::new(items))
-}
+use wc_model::{Outcome, opening_facts};
 
 fn outcome_of(alloc: Global, loaded: Loaded, name: &str) -> Result<Outcome, AllocError>
     ensures { IfOk result (IsChain loaded.image loaded.facts.items loaded.hardware name.now) }
 {
-    let facts = numbered(alloc, loaded.facts)?;
+    let facts = opening_facts(alloc, loaded.facts.as_slice())?;
     chain(
         alloc,
         &loaded.image,

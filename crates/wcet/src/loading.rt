@@ -2,8 +2,8 @@
 ghost use Rattle.std.specs.Prelude.{◌≡◌, ℕ, List, option_map};
 ghost use Rattle.std.specs.List.{list_all};
 ghost use Rattle.wc_base.specs.declared.faults.FileWord.TheVariants.{Binary};
-ghost use Rattle.wc_model.specs.Workspace.Hardware.{default_hardware as default_hardware_of};
-ghost use Rattle.wcet.specs.Files.{FactsFileSays, FactsSay, HardwareSays, Holds, ImageSays, TimingSays, Within, is_checksum};
+ghost use Rattle.wc_model.specs.Workspace.Edits.{is_checksum as is_checksum_of};
+ghost use Rattle.wcet.specs.Files.{FactsFileSays, FactsSay, HardwareSays, Holds, ImageSays, TimingSays, Within};
 ghost use Rattle.wcet.specs.Loading.{AreBytes, Decodes, LoadsFile, LoadsOptional, Loads, listed};
 ghost use Rattle.wcet.specs.Words.{paths_in};
 
@@ -13,8 +13,8 @@ use wc_base::{Fault, FileWord, Trouble, UnbuiltWord};
 use wc_elf::read_image;
 use wc_f4::read_facts;
 use wc_hw::read_hardware;
-use wc_io::{House, ReadFile, read_file};
-use wc_model::{Cycles, Fact, Hardware, Image};
+use wc_io::{House, ReadWhole, read_file};
+use wc_model::{Fact, Hardware, Image, default_hardware, is_checksum};
 
 /// The longest file that is read, in bytes.
 pub const MOST_BYTES: usize = 16_777_216;
@@ -35,29 +35,6 @@ pub enum Unloaded {
     Memory,
 }
 
-/// Each class takes one cycle, nothing else takes any, and there is no cache.
-fn default_hardware() -> Hardware
-    ensures { result ≡ default_hardware_of }
-{
-    Hardware {
-        cycles: Cycles {
-            alu: 1,
-            mul: 1,
-            div: 1,
-            load: 1,
-            store: 1,
-            multi: 1,
-            branch: 1,
-            system: 1,
-            taken: 0,
-            per_register: 0,
-            hit: 0,
-            miss: 0,
-        },
-        cache: None,
-    }
-}
-
 // The bytes of a file that isn't too long.
 fn load_bytes<H: House>(
     alloc: Global,
@@ -71,9 +48,9 @@ fn load_bytes<H: House>(
 {
     match read_file(alloc, house, path, MOST_BYTES) {
         Ok(bytes) => Ok(bytes),
-        Err(ReadFile::Long) => Err(Unloaded::Refused(Fault::LongFile(word))),
-        Err(ReadFile::Failed) => Err(Unloaded::ReadFault),
-        Err(ReadFile::Memory(_)) => Err(Unloaded::Memory),
+        Err(ReadWhole::Long) => Err(Unloaded::Refused(Fault::LongFile(word))),
+        Err(ReadWhole::Failed) => Err(Unloaded::ReadFault),
+        Err(ReadWhole::Memory(_)) => Err(Unloaded::Memory),
     }
 }
 
@@ -100,14 +77,8 @@ fn decode_hardware(alloc: Global, bytes: &[u8]) -> Result<Hardware, Unloaded>
     }
 }
 
-fn is_checksum(fact: &Fact) -> bool
-    ensures { result ≡ is_checksum fact.now }
-{
-    matches!(fact, Fact::Checksum { .. })
-}
-
 fn are_checksums(facts: &[Fact]) -> bool
-    ensures { result ≡ list_all is_checksum facts.now }
+    ensures { result ≡ list_all is_checksum_of facts.now }
 {
     facts.iter().all(|fact| is_checksum(fact))
 }

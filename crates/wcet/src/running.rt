@@ -87,7 +87,6 @@ fn run_core<R: Wait, W: Work + Send, S: Source + Drop, K: Sink + Drop>(
         sink,
         ended,
     } = session(rt, alloc, &mut core, image, lines, sink);
-    core.history();
     let (history, works) = core.close();
     Ran {
         history,

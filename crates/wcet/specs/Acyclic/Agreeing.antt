@@ -1,5 +1,5 @@
 -- The chain depends on its inputs by their parts alone: where these agree, it has the same outcomes.
-use Rattle.std.proofs.Common.{◌≡◌, ℕ, ◌≤◌, List, [], ◌∷◌, Result, Ok, Err, IsSome, sym, ap, subst, ◌∙◌}
+use Rattle.std.proofs.Common.{◌≡◌, ℕ, ◌≤◌, List, [], ◌∷◌, Some, Result, Ok, Err, IsSome, sym, ap, subst, ◌∙◌}
 use Rattle.std.specs.Prelude.{Contains}
 use Rattle.wc_base.specs.declared.faults.Fault.{Fault}
 use Rattle.wc_model.specs.declared.elf_image.Image.{Image}
@@ -11,13 +11,14 @@ use Rattle.wc_model.specs.Workspace.Closures.{closure}
 use Rattle.wc_model.specs.Workspace.Edits.{Setting, AgreeOn, AgreeOnAll}
 use Rattle.wc_model.specs.Workspace.History.{bound_kind}
 use Rattle.wc_model.specs.Program.Positions.{Position, start_of}
+use Rattle.wc_model.specs.Program.Reaching.{here, along}
 use Rattle.wc_model.specs.Program.Steps.{Step, steps_of}
 use Rattle.wc_model.proofs.SteeringLemmas.{SameCode, agreeing_code, stated, turned}
 use Rattle.wc_core.specs.Features.{Tells}
 use Rattle.wc_core.specs.Holds.{bound_alone, all_parts}
 use Rattle.wcet.specs.Acyclic.Chain.{IsUnbuiltCode, faulty, unbuilt, loops, many, IsGreatest, IsChain, unnamed, bounded, chain}
 use Rattle.wcet.specs.Acyclic.Feature.{IsFeature, outcome_of}
-use Rattle.wcet.specs.Acyclic.Paths.{Reaches, here, along, Leads, IsPath, path_cycles}
+use Rattle.wcet.specs.Acyclic.Paths.{Reaches, Leads, IsPath, path_cycles}
 
 module _ (image : Image) (fs gs : List FlowFact) (entry : ℕ) (same : SameCode image fs gs entry) where
   step_alike : (p : Position) (s : Step) → Contains (steps_of image fs entry p) s → Contains (steps_of image gs entry p) s
@@ -25,10 +26,10 @@ module _ (image : Image) (fs gs : List FlowFact) (entry : ℕ) (same : SameCode 
 
   reach_alike : (p q : Position) → Reaches image fs entry p q → Reaches image gs entry p q
   reach_alike p q here = here
-  reach_alike p q (along {q = o} s r before among to) = along s r (reach_alike p o before) (step_alike o s among) to
+  reach_alike p q (along {q = o} r before (s, among, to)) = along r (reach_alike p o before) (s, step_alike o s among, to)
 
   lead_on_alike : (p q : Position) → Leads image fs entry p q → Leads image gs entry p q
-  lead_on_alike p q (s, r, among, to, rest) = (s, r, step_alike p s among, to, reach_alike r q rest)
+  lead_on_alike p q (last, way, (s, among, to)) = (last, reach_alike p last way, (s, step_alike last s among, to))
 
   paths_alike : (p : Position) (path : List Step) → IsPath image fs entry p path → IsPath image gs entry p path
   paths_alike p [] is = is

@@ -1,5 +1,5 @@
 ghost use Rattle.std.specs.Prelude.{◌≡◌};
-ghost use Rattle.wcet.specs.Acyclic.Paths.{class_cycles, insn_cycles};
+ghost use Rattle.wc_model.specs.Program.Paths.{class_cycles, insn_cycles};
 
 use wc_model::{Class, Cycles, Insn};
 

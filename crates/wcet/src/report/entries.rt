@@ -3,7 +3,8 @@ ghost use Rattle.wc_f4.specs.FactText.{fact_text};
 ghost use Rattle.wc_hw.specs.HardwareText.{hardware_text};
 ghost use Rattle.wc_io.specs.Causes.{HasCause};
 ghost use Rattle.wc_io.specs.Writing.{Writes};
-ghost use Rattle.wcet.specs.ReportText.{IsOfKinds, answer_front, edit_front, edit_text, end_word, entry_line, entry_text, finish_front, kind_name as kind_name_of, outcome_words};
+ghost use Rattle.wcet.specs.ReportText.{IsOfKinds, answer_front, edit_front, edit_text, end_word, entry_line, entry_text, finish_front, outcome_words};
+ghost use Rattle.wc_model.specs.Workspace.KindNames.{kind_name as kind_name_of};
 
 use wc_f4::write_fact;
 use wc_hw::write_hardware;

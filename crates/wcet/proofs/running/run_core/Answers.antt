@@ -1,6 +1,6 @@
 use Rattle.std.proofs.Common.{ap, subst, sym, ◌∙◌}
 use Rattle.wc_core.specs.Answers.{RunsNothing}
-use Rattle.wc_core.proofs.Openings.{alone_free}
+use Rattle.wc_core.proofs.Openings.{alone_rests}
 use Rattle.wc_model.specs.Workspace.States.{Opening}
 use Rattle.wcet.proofs.ServingLemmas.{left_runs}
 use Rattle.wcet.proofs.running.run_core.Goals as goal
@@ -14,10 +14,10 @@ returns-clause-runs g c =
 -- its one session is free, so no run is out
 pub close-history-requires-after_bounds : goal.close-history-requires-after_bounds
 close-history-requires-after_bounds g c κs within =
-    c.history.ensures.rests (alone_free _ _ (ap (λ (o : Opening). o.sessions) c.session-source.ensures.opening ∙ c.requires.alone) c.session-source.ensures.free)
+    alone_rests _ _ (ap (λ (o : Opening). o.sessions) c.session-source.ensures.opening ∙ c.requires.alone) c.session-source.ensures.free
 
 pub returns-clause-rests : goal.returns-clause-rests
 returns-clause-rests g c =
-    let rests = c.history.ensures.rests (alone_free _ _ (ap (λ (o : Opening). o.sessions) c.session-source.ensures.opening ∙ c.requires.alone) c.session-source.ensures.free) in
+    let rests = alone_rests _ _ (ap (λ (o : Opening). o.sessions) c.session-source.ensures.opening ∙ c.requires.alone) c.session-source.ensures.free in
     subst (λ (o : Opening). RunsNothing o c.close-history.result.0.items) c.session-source.ensures.opening
     (subst (RunsNothing c.session-source.new.core.opening) (sym c.close-history.ensures.history) rests)

@@ -2,7 +2,8 @@ use Rattle.std.proofs.Common.{◌≡◌, List, [], Some, length, subst, arith}
 use Rattle.wc_model.specs.declared.flow_facts.Fact.{Fact}
 use Rattle.wc_model.specs.declared.flow_system.SystemStep.{SystemStep}
 use Rattle.wcet.specs.Acyclic.Chain.{unbuilt, bounded}
-use Rattle.wc_model.specs.Flow.Walks.{IsCycle, IsCostFrom}
+use Rattle.wc_model.specs.Flow.Ends.{system_ends}
+use Rattle.wc_model.specs.Flow.Walks.{Joins, IsCycle, IsCostFrom}
 use Rattle.wcet.specs.Exploring.{IsExploration}
 use Rattle.wcet.proofs.Answer.{are_steps, not_empty, cycle_unbuilt, none_unbuilt, all_lead, greatest}
 use Rattle.wcet.proofs.chain.outcome.chain_at.Goals as goal
@@ -34,7 +35,7 @@ pub returns-in-Cycle : goal.returns-in-Cycle
 returns-in-Cycle c = λ facts name found.
     let code = c.in-Some.code in
     let is = explored (goal.at.returns-in-Cycle c).In-Some in
-    let cycle : IsCycle code.steps.items 0 c.in-Cycle.field-0 = subst (λ (steps : List SystemStep). IsCycle steps 0 c.in-Cycle.field-0) c.as_slice.ensures.value (rw c.in-Cycle.is at c.in_ok-greatest_from.ensures) in
+    let cycle : IsCycle (Joins system_ends code.steps.items) 0 c.in-Cycle.field-0 = subst (λ (steps : List SystemStep). IsCycle (Joins system_ends steps) 0 c.in-Cycle.field-0) c.as_slice.ensures.value (rw c.in-Cycle.is at c.in_ok-greatest_from.ensures) in
     unbuilt c.args.entry found (cycle_unbuilt c.args.image.now facts c.args.entry c.args.hardware.now code is.0 (is.1 facts) c.in-Cycle.field-0 cycle)
 
 pub unwrap-requires : goal.unwrap-requires
