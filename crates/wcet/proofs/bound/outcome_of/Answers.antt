@@ -1,4 +1,4 @@
-use Rattle.std.proofs.Common.{◌≡◌, ℕ, ◌+◌, List, [], ◌∷◌, map, IfOk, refl, sym, ap, subst, ◌∙◌}
+use Rattle.std.proofs.Common.{◌≡◌, ℕ, ◌+◌, List, [], ◌∷◌, map, IfOk, refl, ap, subst, ◌∙◌}
 use Rattle.wc_model.specs.declared.flow_facts.Fact.{Fact}
 use Rattle.wc_model.specs.Workspace.Edits.{numbered}
 use Rattle.wcet.specs.Acyclic.Chain.{IsChain}
@@ -13,4 +13,4 @@ pub returns : goal.returns
 returns c =
     let facts = ap (map (λ (f : ℕ × Fact). f.1)) (c.in_ok-facts.ensures ∙ ap (numbered 2) c.as_slice.ensures.value) ∙ map-numbered 2 c.args.loaded.facts.items in
     let P : List Fact → Type 0 = λ fs. IfOk c.chain.result (IsChain c.args.loaded.image fs c.args.loaded.hardware c.args.name.now) in
-    subst P facts (rw (sym c.as_bytes.ensures.value) c.chain.ensures)
+    subst P facts (rw c.as_bytes.ensures.value at c.chain.ensures)
