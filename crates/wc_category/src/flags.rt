@@ -1,0 +1,42 @@
+ghost use Rattle.std.specs.Prelude.{◌≡◌, IfOk, IsTrue, map};
+ghost use Rattle.std.specs.List.{zip};
+ghost use Rattle.wc_model.specs.Cache.Categories.{are_flags_for, categories_of, category_of};
+
+use std::alloc::{AllocError, Global};
+use wc_model::{Category, Flags};
+
+/// The category of each node, from the flags of must and may; `NoCache` for all where there are no flags.
+pub fn categories(
+    alloc: Global,
+    nodes: u32,
+    must: &Flags,
+    may: &Flags,
+) -> Result<Vec<Category>, AllocError>
+    requires { IsTrue (are_flags_for nodes must.now.yes may.now.yes) }
+    ensures { IfOk result (λ v. v.items ≡ categories_of nodes must.now.yes may.now.yes) }
+{
+    let must = must.yes.items();
+    if must.is_empty() {
+        return vec![in alloc; Category::NoCache; nodes as usize];
+    }
+    by_flags(alloc, must, may.yes.items())
+}
+
+fn by_flags(alloc: Global, must: &[bool], may: &[bool]) -> Result<Vec<Category>, AllocError>
+    ensures { IfOk result (λ v. v.items ≡ map (λ flags. category_of flags.0 flags.1) (zip must.now may.now)) }
+{
+    must.iter()
+        .zip(may)
+        .map(|(must, may)| category(*must, *may))
+        .collect(alloc)
+}
+
+fn category(must: bool, may: bool) -> Category
+    ensures { result ≡ category_of must may }
+{
+    match (must, may) {
+        (true, _) => Category::Hit,
+        (false, false) => Category::Miss,
+        (false, true) => Category::Unclassified,
+    }
+}
