@@ -1,5 +1,6 @@
 ghost use Rattle.std.specs.Prelude.{◌≡◌, ℕ, ◌+◌, ◌-◌, ◌<◌, ◌≤◌, Some, None, IfOk, IfSome, MatchOption, length, true, false, slice_index_or, slice_set, replicate, All};
-ghost use Rattle.wc_fix.specs.Inner.Fixing.{Alike, AllAlike, Follows, IsBrought, IsLed, IsRaised, IsReady, KeepsFixing, state_at, work_left, Waits};
+ghost use Rattle.wc_fix.specs.Inner.Fixing.{Follows, IsBrought, IsLed, IsRaised, IsReady, KeepsFixing, state_at, work_left, Waits};
+ghost use Rattle.wc_fix.specs.Solved.{Alike, AllAlike};
 ghost use Rattle.wc_model.specs.Cache.Ages.{fetched};
 
 use crate::Lattice;

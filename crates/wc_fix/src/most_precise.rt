@@ -1,5 +1,5 @@
 ghost use Rattle.std.specs.Prelude.{◌≡◌, ℕ, ◌<◌, All, IfOk, IfSome, length};
-ghost use Rattle.wc_fix.specs.Solved.{IsSolved};
+ghost use Rattle.wc_fix.specs.Solved.{AllAlike, IsSolved};
 ghost use Rattle.wc_model.specs.Flow.Ends.{step_ends};
 ghost use Rattle.wc_model.specs.Flow.Walks.{AreSteps};
 ghost use Rattle.wc_model.specs.Program.Graphs.{IsGraph, LeadsIn};
@@ -21,7 +21,8 @@ pub fn solve<L: Lattice>(
     requires graph { IsGraph graph.now }
     requires count { length access.now ≡ length graph.now.nodes }
     requires lines { All (λ x. IfSome x (λ line. line < L.lines first)) access.now }
-    ensures { IfOk result (λ v. IsSolved L.state L.precise L.accessed (length graph.now.nodes) graph.now.steps access.now graph.now.start (L.state first) v.items) }
+    ensures alike { IfOk result (λ v. AllAlike L.shape L.lines first v.items) }
+    ensures solved { IfOk result (λ v. IsSolved L.state L.precise L.accessed (length graph.now.nodes) graph.now.steps access.now graph.now.start (L.state first) v.items) }
 {
     let nodes = graph.nodes.items().len() as u32;
     solve_steps(alloc, nodes, graph.steps.items(), graph.start, access, first)
@@ -41,7 +42,8 @@ pub fn solve_steps<L: Lattice>(
     requires reached { (p : ℕ) → p < nodes → Reaches (LeadsIn steps.now) start p }
     requires count { length access.now ≡ nodes }
     requires lines { All (λ x. IfSome x (λ line. line < L.lines first)) access.now }
-    ensures { IfOk result (λ v. IsSolved L.state L.precise L.accessed nodes steps.now access.now start (L.state first) v.items) }
+    ensures alike { IfOk result (λ v. AllAlike L.shape L.lines first v.items) }
+    ensures solved { IfOk result (λ v. IsSolved L.state L.precise L.accessed nodes steps.now access.now start (L.state first) v.items) }
 {
     let starts = starts(alloc, nodes, steps)?;
     let mut fixing = Fixing::new(alloc, nodes, start, first)?;

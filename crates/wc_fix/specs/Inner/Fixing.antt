@@ -1,6 +1,7 @@
 -- What holds while `solve` is at work.
 use Rattle.std.specs.Prelude.{ℕ, ◌≡◌, ◌<◌, ◌≤◌, ◌+◌, ◌*◌, ◌^◌, ◌⊎◌, Bool, true, false, List, [], ◌∷◌, Option, None, Some, IfSome, All, Contains, length, slice_index_or, slice_set, if◌then◌else◌}
 use Rattle.std.specs.List.{sum_by}
+use Rattle.wc_fix.specs.Solved.{Alike, AllAlike}
 use Rattle.wc_model.specs.declared.graphs.Step.{Step}
 use Rattle.wc_model.specs.Cache.Ages.{IsSolution, fetched}
 use Rattle.wc_model.specs.Flow.Ends.{step_ends}
@@ -35,14 +36,6 @@ pub record Problem (L : Type 0) : Type 0 where
 -- the state at a node is above what a step brings there
 abbrev pub IsAbove : {L State : Type 0} → (L → State) → (State → State → Type 0) → List (Option L) → State → ℕ → Type 0
 IsAbove {L} state precise states brought q = (b : L) × (state_at states q ≡ Some b) × precise brought (state b)
-
--- A value has the shape of another.
-module _ {L : Type 0} (shape lines : L → ℕ) where
-  abbrev pub Alike : L → L → Type 0
-  Alike a b = (shape b ≡ shape a) × (lines b ≡ lines a)
-
-  abbrev pub AllAlike : L → List (Option L) → Type 0
-  AllAlike a states = (p : ℕ) (b : L) → state_at states p ≡ Some b → Alike a b
 
 -- One state is raised above `after`: an unknown one is a copy of it.
 module _ {L State : Type 0} (state : L → State) (shape lines rank : L → ℕ) (precise : State → State → Type 0) where

@@ -24,8 +24,11 @@ loop-node-preserved g c =
     let problem : Problem g.row.L.Denot = record { nodes = c.args.nodes; steps = c.args.steps.now; access = c.args.access.now; start = c.args.start; first = c.args.first } in
     c.in_ok-visit.ensures.fixing problem (record { leave = c.steps_from-own.ensures; fetches = refl }) c.loop-node.invariant
 
-pub returns : goal.returns
-returns g c =
+pub returns-clause-alike : goal.returns-clause-alike
+returns-clause-alike g c = c.loop-node.invariant.same
+
+pub returns-clause-solved : goal.returns-clause-solved
+returns-clause-solved g c =
     let x = g.L.Lattice in
     let laws = g.met.L.Lattice in
     let problem : Problem g.row.L.Denot = record { nodes = c.args.nodes; steps = c.args.steps.now; access = c.args.access.now; start = c.args.start; first = c.args.first } in
