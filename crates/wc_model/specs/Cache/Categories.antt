@@ -1,5 +1,6 @@
 -- What is known of the fetch at a node. After Ferdinand and Wilhelm 1999.
-use Rattle.std.specs.Prelude.{ℕ, ◌≡◌, ◌==◌, ◌&&◌, ◌||◌, Bool, true, false, List, [], ◌∷◌, length, replicate, Option}
+use Rattle.std.specs.Prelude.{ℕ, ◌≡◌, ◌==◌, ◌&&◌, ◌||◌, Bool, true, false, List, [], ◌∷◌, length, map, replicate, Option}
+use Rattle.std.specs.List.{zip}
 use Rattle.wc_model.specs.declared.graphs.Category.{Category}
 use Rattle.wc_model.specs.declared.graphs.Category.TheVariants.{Hit, Miss, Unclassified, NoCache}
 use Rattle.wc_model.specs.declared.graphs.Flags.{Flags}
@@ -17,15 +18,10 @@ category_of false true = Unclassified
 abbrev pub are_flags_for : ℕ → List Bool → List Bool → Bool
 are_flags_for nodes must may = length must == length may && (length must == 0 || length must == nodes)
 
-abbrev pub by_flags : List Bool → List Bool → List Category
-by_flags (m ∷ must) (y ∷ may) = category_of m y ∷ by_flags must may
-by_flags (m ∷ must) [] = []
-by_flags [] may = []
-
--- what flags say of each node; without flags there is no cache
+-- what flags say, node by node; without flags there is no cache
 abbrev pub categories_of : ℕ → List Bool → List Bool → List Category
 categories_of nodes [] may = replicate nodes NoCache
-categories_of nodes (m ∷ must) may = by_flags (m ∷ must) may
+categories_of nodes (m ∷ must) may = map (λ (flags : Bool × Bool). category_of flags.0 flags.1) (zip (m ∷ must) may)
 
 -- the categories of a graph's nodes
 abbrev pub AreCategories : Graph → Option Cache → List Category → Type 0

@@ -1,6 +1,7 @@
 -- The cycles of a path from a state of the cache.
 use Rattle.std.specs.Prelude.{ℕ, ◌≡◌, ◌+◌, Bool, true, false, List, [], ◌∷◌, map, Option, None, Some, Contains, slice_get}
 use Rattle.std.specs.List.{AllZip}
+use Rattle.std.specs.Option.{option_map}
 use Rattle.wc_model.specs.declared.elf_image.Image.{Image}
 use Rattle.wc_model.specs.declared.graphs.Graph.{Graph}
 use Rattle.wc_model.specs.declared.graphs.Node.{Node}
@@ -9,7 +10,7 @@ use Rattle.wc_model.specs.declared.machine.Cache.{Cache}
 use Rattle.wc_model.specs.declared.machine.Cycles.{Cycles}
 use Rattle.wc_model.specs.declared.machine.Hardware.{Hardware}
 use Rattle.wc_model.specs.Cache.Lru.{Held, cache_fetched, is_hit}
-use Rattle.wc_model.specs.Program.Paths.{insn_cycles, known_cycles}
+use Rattle.wc_model.specs.Program.Paths.{known_cycles}
 use Rattle.wc_model.specs.Program.Steps.{Step, insn_at}
 
 -- a step as timing sees it: the address that it fetches, and what it costs beside that fetch
@@ -42,12 +43,15 @@ abbrev pub path_cycles : Image → Hardware → Held → List Step → ℕ
 path_cycles image hardware held path = cycles_from hardware.cache hardware.cycles held (map (timed_move image hardware.cycles) path)
 
 -- A path of numbered steps through a graph.
-abbrev pub timed_at : Cycles → Bool → Option Node → Timed
-timed_at c taken None = record { base = 0; pc = 0 }
-timed_at c taken (Some n) = record { base = insn_cycles c taken n.insn; pc = n.pc }
+abbrev pub pc_of : Option Node → ℕ
+pc_of None = 0
+pc_of (Some n) = n.pc
+
+abbrev pub pc_at : Graph → ℕ → ℕ
+pc_at graph p = pc_of (slice_get graph.nodes p)
 
 abbrev pub timed_step : Graph → Cycles → NumberedStep → Timed
-timed_step graph c s = timed_at c s.taken (slice_get graph.nodes s.source)
+timed_step graph c s = record { base = known_cycles c s.taken (option_map (λ (n : Node). n.insn) (slice_get graph.nodes s.source)); pc = pc_at graph s.source }
 
 -- from a node, `Some p`, to the exit, `None`: each step leaves where the one before led
 abbrev pub IsGraphWalk : List NumberedStep → Option ℕ → List NumberedStep → Type 0

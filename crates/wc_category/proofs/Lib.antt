@@ -1,0 +1,5 @@
+pub mod AgeLemmas
+pub mod CategoryLemmas
+pub mod FlagLemmas
+pub mod PlaceLemmas
+pub mod VisitLemmas

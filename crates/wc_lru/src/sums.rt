@@ -1,0 +1,71 @@
+ghost use Rattle.std.specs.Prelude.{◌≡◌, ◌+◌, ◌≤◌, ◌<◌, ◌*◌, ◌^◌, All, length, slice_get};
+ghost use Rattle.std.specs.Option.{option_map};
+ghost use Rattle.wc_model.specs.Cache.Lru.{cache_fetched, is_hit};
+ghost use Rattle.wc_model.specs.Cache.Timing.{AreCyclesOf, cached_cycles, fetch_cycles, pc_at, timed_step, uncached_cycles};
+ghost use Rattle.wc_lru.specs.Filled.{cache_in, held_by, held_in};
+ghost use Rattle.wc_lru.specs.Inner.Places.{timed_at};
+
+use crate::Lru;
+use crate::paths::{is_path, step_at};
+use wc_cost::base_cycles;
+use wc_model::{Cycles, Graph, Step};
+
+/// The cycles of the path whose steps stand at these places of the graph, from what `lru` holds; without an `lru`
+/// there is no cache. `None` exactly where the steps don't lead from the graph's start to its exit.
+pub fn cycles(graph: &Graph, path: &[u32], cycles: &Cycles, lru: Option<&mut Lru>) -> Option<u128>
+    requires { All (λ s. s.source < length graph.now.nodes) graph.now.steps }
+    ensures { AreCyclesOf graph.now path.now (cache_in (option_map (λ l. l.now) lru.entry)) cycles.now (held_by (option_map (λ l. l.now) lru.entry)) result }
+{
+    if !is_path(graph, path) {
+        return None;
+    }
+    match lru {
+        Some(lru) => Some(cached_cycles(graph, path, cycles, lru)),
+        None => Some(uncached_cycles(graph, path, cycles)),
+    }
+}
+
+fn cached_cycles(graph: &Graph, path: &[u32], cycles: &Cycles, lru: &mut Lru) -> u128
+    requires { All (λ s. s.source < length graph.now.nodes) graph.now.steps }
+    ensures { result ≡ cached_cycles lru.old.cache cycles.now (held_in lru.old) (timed_at graph.now cycles.now path.now) }
+{
+    let mut sum = 0;
+    for place in path {
+        if let Some(step) = step_at(graph, *place) {
+            sum += step_cycles(graph, cycles, &step, lru) as u128;
+        }
+    }
+    sum
+}
+
+// One step: what it costs beside its fetch, and the fetch.
+fn step_cycles(graph: &Graph, cycles: &Cycles, step: &Step, lru: &mut Lru) -> u64
+    requires { step.now.source < length graph.now.nodes }
+    ensures value { result ≡ (timed_step graph.now cycles.now step.now).base + fetch_cycles cycles.now (is_hit lru.old.cache (pc_at graph.now step.now.source) (held_in lru.old)) }
+    ensures small { result < 2 ^ 33 }
+    ensures cache { lru.new.cache ≡ lru.old.cache }
+    ensures held { held_in lru.new ≡ cache_fetched lru.old.cache (pc_at graph.now step.now.source) (held_in lru.old) }
+{
+    let base = base_cycles(graph, cycles, step);
+    let hit = lru.fetch(graph.nodes.items()[step.source as usize].pc);
+    base + fetch_cycles(cycles, hit) as u64
+}
+
+fn fetch_cycles(cycles: &Cycles, hit: bool) -> u16
+    ensures { result ≡ fetch_cycles cycles.now hit }
+{
+    if hit { cycles.hit } else { cycles.miss }
+}
+
+fn uncached_cycles(graph: &Graph, path: &[u32], cycles: &Cycles) -> u128
+    requires { All (λ s. s.source < length graph.now.nodes) graph.now.steps }
+    ensures { result ≡ uncached_cycles (timed_at graph.now cycles.now path.now) }
+{
+    let mut sum = 0;
+    for place in path {
+        if let Some(step) = step_at(graph, *place) {
+            sum += base_cycles(graph, cycles, &step) as u128;
+        }
+    }
+    sum
+}
