@@ -1,3 +1,4 @@
+pub mod JoinLemmas
+pub mod MayLemmas
 pub mod MustLemmas
 pub mod SlotLemmas
-pub mod MayLemmas

@@ -5,7 +5,7 @@ use Rattle.std.proofs.lemmas.List.Sums.{sum_by-le}
 use Rattle.wc_ages.specs.declared.slots.Slot.{Slot}
 use Rattle.wc_ages.specs.Slots.{AreSlots, age_in, raised, rank_of}
 use Rattle.wc_ages.specs.States.{IsJoinOf, MustHeld, must_ages}
-use Rattle.wc_ages.proofs.SlotLemmas.{age_most, joined_age, joined_slots}
+use Rattle.wc_ages.proofs.JoinLemmas.{joined_age, joined_slots}
 use Rattle.wc_model.specs.Cache.Ages.{Ages, MustPrecise, aged, must_accessed}
 
 pub same_ages : (ways : ℕ) (f g : ℕ → ℕ) → ((y : ℕ) → f y ≡ g y) → (let a : Ages = record { ways = ways; age = f } in a) ≡ (let b : Ages = record { ways = ways; age = g } in b)

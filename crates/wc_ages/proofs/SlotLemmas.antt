@@ -1,4 +1,4 @@
--- Ages in slots: where a line is put, what an access and a join make of them.
+-- Ages in slots: where a line is put, and what an access makes of them.
 use Rattle.std.proofs.Common.{ℕ, zero, suc, ◌≡◌, ◌≢◌, ◌<◌, ◌≤◌, ◌+◌, ◌-◌, ◌*◌, ◌==◌, ◌&&◌, ◌⊎◌, inl, inr, ⊎_elim, min, max, Bool, true, false, if◌then◌else◌, List, [], ◌∷◌, ◌++◌, All, length, get_or, set, drop, take, map, refl, sym, ap, subst, ◌∙◌, arith, length-set}
 use Rattle.std.specs.Prelude.{nat_le, nat_lt}
 use Rattle.std.specs.List.{sum_by}
@@ -10,11 +10,11 @@ use Rattle.std.proofs.lemmas.List.Elements.{All-set}
 use Rattle.std.proofs.lemmas.List.Sums.{sum_by-set, sum_by-cons, sum_by-le}
 use Rattle.wc_ages.specs.declared.slots.Slot.{Slot}
 use Rattle.wc_ages.specs.AgeLaws.{grown, grown_keeps}
-use Rattle.wc_ages.specs.Slots.{AreSlots, age_in, one_below, younger, older, is_place, raised, rank_of, IsRaising}
+use Rattle.wc_ages.specs.Slots.{AreSlots, age_in, one_below, younger, older, is_place, raised, rank_of, IsPlaceAt, IsRaising}
 use Rattle.wc_model.specs.Cache.Ages.{aged}
 
 -- one slot more
-abbrev seen : Bool → ℕ → ℕ → ℕ
+abbrev pub seen : Bool → ℕ → ℕ → ℕ
 seen mine age rest = if mine then min age rest else rest
 
 min_swaps : (mine : Bool) (s a rest : ℕ) → min a (seen mine s rest) ≡ seen mine s (min a rest)
@@ -104,7 +104,7 @@ older_no : (limit : ℕ) (s : Slot) → limit ≤ s.age → s ≡ older limit s
 older_no limit s more = ap (λ (n : ℕ). record s { age = n }) (grown_no limit s.age more)
 
 -- a map in place, one slot on
-map_next : (f : Slot → Slot) (old now : List Slot) (i : ℕ) (d : Slot) → i < length old → now ≡ map f (take i old) ++ drop i old → length now ≡ length old → set now i (f (get_or now i d)) ≡ map f (take (i + 1) old) ++ drop (i + 1) old
+pub map_next : (f : Slot → Slot) (old now : List Slot) (i : ℕ) (d : Slot) → i < length old → now ≡ map f (take i old) ++ drop i old → length now ≡ length old → set now i (f (get_or now i d)) ≡ map f (take (i + 1) old) ++ drop (i + 1) old
 map_next f old now i d within is long = map_over_more f old now i (get_or now i d) within is (get_or_default now i d (get_or now i d) (omega (arith, long)))
 
 pub grows_yes : (limit : ℕ) (old now : List Slot) (i : ℕ) (d : Slot) → i < length old → now ≡ map (older limit) (take i old) ++ drop i old → length now ≡ length old → (get_or now i d).age < limit
@@ -128,14 +128,14 @@ place_cases ways line age s is = ⊎_elim
     (λ (more : ways ≤ age). inr (more, let e : ways - 1 ≤ s.age = grind (arith, nat_tests) in e))
     (cases_lt age ways)
 
-pub place_exists : (ways : ℕ) (slots : List Slot) (line age : ℕ) → AreSlots ways slots → age ≡ age_in ways slots line → (k : ℕ) × (k < length slots) × ((d : Slot) → is_place ways line age (get_or slots k d) ≡ true)
+pub place_exists : (ways : ℕ) (slots : List Slot) (line age : ℕ) → AreSlots ways slots → age ≡ age_in ways slots line → (k : ℕ) × IsPlaceAt ways line age slots k
 place_exists ways slots line age held is = ⊎_elim
     (λ (less : age < ways).
         let own = age_found ways slots line (omega (arith, is, less)) in
-        (own.0, own.1, λ d. place_own ways line age (get_or slots own.0 d) less (own.2 d).0 ((own.2 d).1 ∙ sym is)))
+        (own.0, (own.1, λ d. place_own ways line age (get_or slots own.0 d) less (own.2 d).0 ((own.2 d).1 ∙ sym is))))
     (λ (more : ways ≤ age).
         let free = old_slot (ways - 1) slots (omega (arith, held.some, held.sized, held.counted (ways - 1) (omega arith))) in
-        (free.0, free.1, λ d. place_free ways line age (get_or slots free.0 d) more (free.2 d)))
+        (free.0, (free.1, λ d. place_free ways line age (get_or slots free.0 d) more (free.2 d))))
     (cases_lt age ways)
 
 -- A slot that hides no age of a line.
@@ -169,10 +169,10 @@ grown_age : (ways limit : ℕ) (slots : List Slot) (y : ℕ) → limit ≤ ways 
 grown_age ways limit [] y less = grown_no limit ways less
 grown_age ways limit (s ∷ slots) y less = ap (seen (s.line == y) (grown limit s.age)) (grown_age ways limit slots y less) ∙ seen_grown (s.line == y) limit s.age (age_in ways slots y)
 
-not_same : (y line : ℕ) → y ≢ line → (y == line) ≡ false
+pub not_same : (y line : ℕ) → y ≢ line → (y == line) ≡ false
 not_same y line apart = grind (arith, nat_tests)
 
-same_number : (y line : ℕ) → y ≡ line → (y == line) ≡ true
+pub same_number : (y line : ℕ) → y ≡ line → (y == line) ≡ true
 same_number y line same = grind (arith, nat_tests)
 
 pub aged_other : (limit : ℕ) (age : ℕ → ℕ) (line y : ℕ) → y ≢ line → aged limit age line y ≡ grown limit (age y)
@@ -212,7 +212,7 @@ grown_most limit a ways low less = grind (arith, nat_tests)
 abbrev own_slot : ℕ → Slot
 own_slot line = record { line = line; age = 0 }
 
-nobody : Slot
+pub nobody : Slot
 nobody = record { line = 0; age = 0 }
 
 older_at : (ways limit : ℕ) (slots : List Slot) (place : ℕ) → place < length slots → get_or (map (older limit) slots) place nobody ≡ older limit (get_or slots place nobody)
@@ -297,75 +297,3 @@ youngest age line y limit is none = ⊎_elim
     (λ (same : y ≡ line). ap age same ∙ sym is ∙ none ∙ sym (aged_same limit age line y same))
     (λ (apart : y ≢ line). grown_no limit (age y) (omega (arith, none)) ∙ sym (aged_other limit age line y apart))
     (cases_eq y line)
-
--- A join.
-max_min : (a b o : ℕ) → min (max a o) (max b o) ≡ max (min a b) o
-max_min a b o = omega arith
-
-seen_raised : (line y s rest o other : ℕ) → (line ≡ y → o ≡ other) → seen (line == y) (max s o) (max rest other) ≡ max (seen (line == y) s rest) other
-seen_raised line y s rest o other same = ⊎_elim
-    (λ (own : line ≡ y). let e : (line == y) ≡ true = same_number line y own in let f : o ≡ other = same own in
-        ap (λ (b : Bool). seen b (max s o) (max rest other)) e ∙ ap (λ (n : ℕ). min (max s n) (max rest other)) f ∙ max_min s rest other ∙ sym (ap (λ (b : Bool). max (seen b s rest) other) e))
-    (λ (apart : line ≢ y). let e : (line == y) ≡ false = not_same line y apart in
-        ap (λ (b : Bool). seen b (max s o) (max rest other)) e ∙ sym (ap (λ (b : Bool). max (seen b s rest) other) e))
-    (cases_eq line y)
-
-pub joined_age : (ways : ℕ) (other slots : List Slot) (y : ℕ) → age_in ways (map (raised ways other) slots) y ≡ max (age_in ways slots y) (age_in ways other y)
-joined_age ways other [] y = omega (arith, age_most ways other y)
-joined_age ways other (s ∷ slots) y =
-    ap (seen (s.line == y) (max s.age (age_in ways other s.line))) (joined_age ways other slots y) ∙ seen_raised s.line y s.age (age_in ways slots y) (age_in ways other s.line) (age_in ways other y) (λ (own : s.line ≡ y). ap (age_in ways other) own)
-
-one_raised : (k a b : ℕ) → a ≤ b → one_below k b ≤ one_below k a
-one_raised k a b less = grind (arith, nat_tests)
-
-younger_raised : (k ways : ℕ) (other slots : List Slot) → younger k (map (raised ways other) slots) ≤ younger k slots
-younger_raised k ways other [] = omega arith
-younger_raised k ways other (s ∷ slots) =
-    let new = sum_by-cons (λ (t : Slot). one_below k t.age) (raised ways other s) (map (raised ways other) slots) in
-    let old = sum_by-cons (λ (t : Slot). one_below k t.age) s slots in
-    omega (arith, new, old, one_raised k s.age (max s.age (age_in ways other s.line)) (omega arith), younger_raised k ways other slots)
-
-pub joined_slots : (ways : ℕ) (other slots : List Slot) → AreSlots ways slots → AreSlots ways (map (raised ways other) slots)
-joined_slots ways other slots held = record {
-  some = held.some;
-  few = held.few;
-  sized = length-map slots (raised ways other) ∙ held.sized;
-  capped = λ k d within.
-      let inside : k < length slots = omega (arith, within, length-map slots (raised ways other)) in
-      let s : Slot = get_or slots k nobody in
-      subst (λ (t : Slot). t.age ≤ ways) (sym (get_or-map (raised ways other) slots k nobody d inside)) (omega (arith, held.capped k nobody inside, age_most ways other s.line));
-  counted = λ k within. omega (arith, held.counted k within, younger_raised k ways other slots);
-}
-
--- a join went over one slot more
-pub raise_same : (ways : ℕ) (other slots : List Slot) (i : ℕ) (d : Slot) (age : ℕ) → age ≡ max (get_or slots i d).age (age_in ways other (get_or slots i d).line) → age ≤ (get_or slots i d).age → slots ≡ set slots i (raised ways other (get_or slots i d))
-raise_same ways other slots i d age is less =
-    let s : Slot = get_or slots i d in
-    let same : s.age ≡ max s.age (age_in ways other s.line) = omega (arith, is, less) in
-    sym (set-get_or slots i d) ∙ ap (λ (n : ℕ). set slots i (record s { age = n })) same
-
-pub raising_more : (ways : ℕ) (other : List Slot) (i : ℕ) (old now new : List Slot) (changed one both : Bool) → i < length old → length now ≡ length old → IsRaising ways other i old now changed
-    → ((d : Slot) → new ≡ set now i (raised ways other (get_or now i d))) → (one ≡ false → new ≡ now) → (one ≡ true → (d : Slot) → (get_or now i d).age < age_in ways other (get_or now i d).line) → both ≡ (if one then true else changed)
-    → IsRaising ways other (i + 1) old new both
-raising_more ways other i old now new changed one both within long raising is same greater tells =
-    let so_far = is nobody ∙ map_next (raised ways other) old now i nobody within raising.so_far long in
-    let x : Slot = get_or now i nobody in
-    let sum = sum_by-set (λ (t : Slot). ways - t.age) now i (raised ways other x) nobody (omega (arith, long, within)) in
-    let lower : one ≡ true → rank_of ways new < rank_of ways now = λ yes.
-        let more = greater yes nobody in
-        omega (arith, ap (rank_of ways) (is nobody), sum, more, age_most ways other x.line) in
-    elim one as (λ b. (b ≡ false → new ≡ now) → (b ≡ true → rank_of ways new < rank_of ways now) → both ≡ (if b then true else changed) → IsRaising ways other (i + 1) old new both) [
-      true ↦ λ _ falls all. record {
-        so_far = so_far;
-        same = λ no. absurd (true≢false (sym all ∙ no));
-        falls = λ _. elim changed as (λ b. (b ≡ false → now ≡ old) → (b ≡ true → rank_of ways now < rank_of ways old) → rank_of ways new < rank_of ways old) [
-          true ↦ λ _ before. omega (arith, falls refl, before refl)
-        | false ↦ λ kept _. omega (arith, falls refl, ap (rank_of ways) (kept refl))
-        ] raising.same raising.falls;
-      }
-    | false ↦ λ kept _ all. record {
-        so_far = so_far;
-        same = λ no. kept refl ∙ raising.same (sym all ∙ no);
-        falls = λ yes. omega (arith, ap (rank_of ways) (kept refl), raising.falls (sym all ∙ yes));
-      }
-    ] same lower tells

@@ -1,5 +1,5 @@
 -- What the values of `Must` and `May` stand for.
-use Rattle.std.specs.Prelude.{ℕ, ◌≡◌, ◌≤◌, ◌<◌, ◌^◌, min, Bool, true, false, nat_lt, List, [], ◌∷◌, All, length, slice_index_or, take}
+use Rattle.std.specs.Prelude.{ℕ, ◌≡◌, ◌≤◌, ◌<◌, ◌^◌, min, Bool, true, false, nat_lt, List, [], ◌∷◌, All, length, slice_index, slice_index_or, slice_set, take}
 use Rattle.std.specs.List.{sum}
 use Rattle.wc_ages.specs.declared.slots.Slot.{Slot}
 use Rattle.wc_ages.specs.Slots.{age_in, rank_of}
@@ -42,11 +42,23 @@ module _ (precise : Ages → Ages → Type 0) where
     pub above_other : precise b joined
     pub least : (c : Ages) → precise a c → precise b c → precise joined c
 
+abbrev pub IsMustJoin : MustHeld → MustHeld → MustHeld → Type 0
+IsMustJoin old other new = IsJoinOf MustPrecise (must_ages old) (must_ages other) (must_ages new)
+
+abbrev pub IsMayJoin : MayHeld → MayHeld → MayHeld → Type 0
+IsMayJoin old other new = IsJoinOf MayPrecise (may_ages old) (may_ages other) (may_ages new)
+
 -- each age and the other one at its place: the smaller one
 abbrev pub lowered : List ℕ → List ℕ → List ℕ
 lowered [] other = []
 lowered (a ∷ ages) [] = a ∷ ages
 lowered (a ∷ ages) (b ∷ other) = min a b ∷ lowered ages other
+
+-- one age is lowered to the other one
+pub record IsLoweredAt (other : List ℕ) (place : ℕ) (old new : List ℕ) (changed : Bool) : Type 0 where
+  pub ages : new ≡ slice_set old place (min (slice_index old place) (slice_index other place))
+  pub same : changed ≡ false → new ≡ old
+  pub less : changed ≡ true → slice_index other place < slice_index old place
 
 -- a join went over the first ages, `number` of them
 pub record IsLowering (other : List ℕ) (number : ℕ) (old new : List ℕ) (changed : Bool) : Type 0 where

@@ -1,14 +1,15 @@
-ghost use Rattle.std.specs.Prelude.{◌≡◌, ℕ, ◌+◌, ◌<◌, ◌≤◌, ◌^◌, All, IfOk, length, map, min, slice_index, slice_set, true, false};
+ghost use Rattle.std.specs.Prelude.{◌≡◌, ◌+◌, ◌<◌, ◌≤◌, ◌^◌, IfOk, false, length, map, min, true};
 ghost use Rattle.std.specs.List.{sum};
 ghost use Rattle.wc_ages.specs.AgeLaws.{grown};
-ghost use Rattle.wc_ages.specs.States.{AreAges, IsJoinOf, MayHeld, holds_line, lowered, may_ages, may_rank};
-ghost use Rattle.wc_model.specs.Cache.Ages.{MayPrecise, may_accessed, no_lines};
+ghost use Rattle.wc_ages.specs.States.{AreAges, IsLoweredAt, IsMayJoin, MayHeld, holds_line, lowered, may_ages};
+ghost use Rattle.wc_ages.specs.States.{may_rank};
+ghost use Rattle.wc_model.specs.Cache.Ages.{may_accessed, no_lines};
 
 use std::alloc::{AllocError, Global};
 use std::marker::Model;
 
-/// The lines that may be in a set, with ages that are at least those there. At most 8 ways; the lines are named
-/// from 0.
+/// The lines that may be in a set, with ages that are at least those there. At most 8 ways; the lines are
+/// named from 0.
 #[derive(Drop)]
 pub struct May {
     ways: u8,
@@ -28,6 +29,7 @@ impl May {
     pub fn new(alloc: Global, ways: u8, lines: u32) -> Result<May, AllocError>
         requires some { 1 ≤ ways }
         requires few { ways ≤ 8 }
+        ensures ways { IfOk result (λ m. m.ways ≡ ways) }
         ensures ages { IfOk result (λ m. may_ages m ≡ no_lines ways) }
         ensures room { IfOk result (λ m. length m.ages ≡ lines) }
     {
@@ -55,7 +57,7 @@ impl May {
         requires room { length other.now.ages ≡ length self.old.ages }
         ensures ways { self.new.ways ≡ self.old.ways }
         ensures room { length self.new.ages ≡ length self.old.ages }
-        ensures joined { IsJoinOf MayPrecise (may_ages self.old) (may_ages other.now) (may_ages self.new) }
+        ensures joined { IsMayJoin self.old other.now self.new }
     {
         self.lower(other);
     }
@@ -74,7 +76,7 @@ impl May {
         requires room { length other.now.ages ≡ length self.old.ages }
         ensures ways { self.new.ways ≡ self.old.ways }
         ensures room { length self.new.ages ≡ length self.old.ages }
-        ensures joined { IsJoinOf MayPrecise (may_ages self.old) (may_ages other.now) (may_ages self.new) }
+        ensures joined { IsMayJoin self.old other.now self.new }
         ensures unchanged { result ≡ false → self.new ≡ self.old }
         ensures changed { result ≡ true → may_rank self.new < may_rank self.old }
     {
@@ -122,9 +124,7 @@ fn grow(ages: &mut Vec<u8>, limit: u8)
 fn lower_age(ages: &mut Vec<u8>, place: usize, other: &[u8]) -> bool
     requires inside { place < length ages.old.items }
     requires room { length other.now ≡ length ages.old.items }
-    ensures ages { ages.new.items ≡ slice_set ages.old.items place (min (slice_index ages.old.items place) (slice_index other.now place)) }
-    ensures same { result ≡ false → ages.new.items ≡ ages.old.items }
-    ensures less { result ≡ true → slice_index other.now place < slice_index ages.old.items place }
+    ensures { IsLoweredAt other.now place ages.old.items ages.new.items result }
 {
     if other[place] < ages[place] {
         ages[place] = other[place];

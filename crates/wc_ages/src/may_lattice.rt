@@ -1,4 +1,4 @@
-ghost use Rattle.std.specs.Prelude.{◌≡◌, ℕ, ◌<◌, ◌≤◌, ◌^◌, ◌+◌, ◌-◌, length, true, false};
+ghost use Rattle.std.specs.Prelude.{length};
 ghost use Rattle.wc_ages.specs.AgeLaws.{may_keeps, may_refl, may_trans};
 ghost use Rattle.wc_ages.specs.States.{may_ages, may_rank};
 ghost use Rattle.wc_model.specs.Cache.Ages.{Ages, MayPrecise, may_accessed};

@@ -1,7 +1,7 @@
 ghost use Rattle.std.specs.Prelude.{◌≡◌, ℕ, ◌<◌, ◌≤◌, take, true, false};
 ghost use Rattle.wc_ages.specs.Slots.{AreSlots};
-ghost use Rattle.wc_ages.specs.States.{IsJoinOf, MustHeld, holds_line, must_ages, must_rank};
-ghost use Rattle.wc_model.specs.Cache.Ages.{MustPrecise, must_accessed, no_lines};
+ghost use Rattle.wc_ages.specs.States.{IsMustJoin, MustHeld, holds_line, must_ages, must_rank};
+ghost use Rattle.wc_model.specs.Cache.Ages.{must_accessed, no_lines};
 
 use crate::slots::{Slot, age_among, fetch, raise_slots, room_in};
 use std::marker::Model;
@@ -26,7 +26,8 @@ impl Must {
     pub fn new(ways: u8) -> Must
         requires some { 1 ≤ ways }
         requires few { ways ≤ 8 }
-        ensures { must_ages result ≡ no_lines ways }
+        ensures ways { result.ways ≡ ways }
+        ensures ages { must_ages result ≡ no_lines ways }
     {
         Must {
             ways,
@@ -46,7 +47,7 @@ impl Must {
     pub fn join(&mut self, other: &Self)
         requires { other.now.ways ≡ self.old.ways }
         ensures ways { self.new.ways ≡ self.old.ways }
-        ensures joined { IsJoinOf MustPrecise (must_ages self.old) (must_ages other.now) (must_ages self.new) }
+        ensures joined { IsMustJoin self.old other.now self.new }
     {
         self.raise(other);
     }
@@ -62,7 +63,7 @@ impl Must {
     pub(crate) fn raise(&mut self, other: &Self) -> bool
         requires { other.now.ways ≡ self.old.ways }
         ensures ways { self.new.ways ≡ self.old.ways }
-        ensures joined { IsJoinOf MustPrecise (must_ages self.old) (must_ages other.now) (must_ages self.new) }
+        ensures joined { IsMustJoin self.old other.now self.new }
         ensures unchanged { result ≡ false → self.new ≡ self.old }
         ensures changed { result ≡ true → must_rank self.new < must_rank self.old }
     {

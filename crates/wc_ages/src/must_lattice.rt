@@ -1,4 +1,4 @@
-ghost use Rattle.std.specs.Prelude.{◌≡◌, ℕ, ◌<◌, ◌≤◌, ◌^◌, ◌+◌, ◌-◌, true, false};
+ghost use Rattle.std.specs.Prelude.{◌^◌};
 ghost use Rattle.wc_ages.specs.AgeLaws.{must_keeps, must_refl, must_trans};
 ghost use Rattle.wc_ages.specs.States.{must_ages, must_rank};
 ghost use Rattle.wc_model.specs.Cache.Ages.{Ages, MustPrecise, must_accessed};

@@ -1,6 +1,6 @@
-ghost use Rattle.std.specs.Prelude.{◌≡◌, ℕ, ◌<◌, ◌≤◌, ◌==◌, max, min, true, false, All, if◌then◌else◌, length, map, slice_get, slice_set, slice_index_or, Some};
-ghost use Rattle.wc_ages.specs.Slots.{AreSlots, age_in, is_place, older, raised, rank_of};
-ghost use Rattle.wc_model.specs.Cache.Ages.{aged};
+ghost use Rattle.std.specs.Prelude.{◌≡◌, ℕ, ◌<◌, ◌≤◌, ◌==◌, false, if◌then◌else◌, length, map, max, min, true};
+ghost use Rattle.wc_ages.specs.Slots.{AreSlots, IsFetched, IsPlaceAt, IsRaisedAt, age_in, is_place, older};
+ghost use Rattle.wc_ages.specs.Slots.{raised, rank_of};
 
 /// A line and its age.
 #[derive(Clone, Copy)]
@@ -44,9 +44,8 @@ fn fits_at(ways: u8, slot: &Slot, line: u32, age: u8) -> bool
 // Where a line of that age is put.
 fn place_of(ways: u8, slots: &[Slot], line: u32, age: u8) -> usize
     requires some { 1 ≤ ways }
-    requires there { (k : ℕ) × (k < length slots.now) × ((d : Slot) → is_place ways line age (slice_index_or slots.now k d) ≡ true) }
-    ensures inside { result < length slots.now }
-    ensures place { (d : Slot) → is_place ways line age (slice_index_or slots.now result d) ≡ true }
+    requires there { (k : ℕ) × IsPlaceAt ways line age slots.now k }
+    ensures { IsPlaceAt ways line age slots.now result }
 {
     for (index, slot) in slots.iter().enumerate() {
         if fits_at(ways, slot, line, age) {
@@ -70,7 +69,7 @@ fn grow(slots: &mut [Slot], limit: u8)
 pub fn fetch(ways: u8, slots: &mut [Slot], line: u32)
     requires { AreSlots ways slots.old }
     ensures slots { AreSlots ways slots.new }
-    ensures ages { (y : ℕ) → age_in ways slots.new y ≡ aged (age_in ways slots.old line) (age_in ways slots.old) line y }
+    ensures ages { IsFetched ways line slots.old slots.new }
 {
     let age = age_among(ways, slots, line);
     if age > 0 {
@@ -97,9 +96,7 @@ fn raised_age(ways: u8, slot: &Slot, other: &[Slot], place: usize) -> u8
 // One slot goes up to the other state's age of its line, and whether that changed it.
 fn raise_slot(ways: u8, slots: &mut [Slot], place: usize, other: &[Slot]) -> bool
     requires { place < length slots.old }
-    ensures slots { (d : Slot) → slots.new ≡ slice_set slots.old place (raised ways other.now (slice_index_or slots.old place d)) }
-    ensures same { result ≡ false → slots.new ≡ slots.old }
-    ensures greater { result ≡ true → (d : Slot) → (slice_index_or slots.old place d).age < age_in ways other.now (slice_index_or slots.old place d).line }
+    ensures { IsRaisedAt ways other.now place slots.old slots.new result }
 {
     let age = raised_age(ways, &slots[place], other, place);
     if slots[place].age < age {

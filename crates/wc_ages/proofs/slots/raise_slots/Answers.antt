@@ -1,5 +1,5 @@
 use Rattle.std.proofs.Common.{◌≡◌, ℕ, ◌∙◌, true, false, length, get_or, sym}
-use Rattle.wc_ages.proofs.SlotLemmas.{raising_more}
+use Rattle.wc_ages.proofs.JoinLemmas.{raising_more}
 use Rattle.wc_ages.proofs.slots.raise_slots.Goals as goal
 use Rattle.wc_ages.proofs.slots.raise_slots.Goals.{then-raise_slot, else-raise_slot}
 
