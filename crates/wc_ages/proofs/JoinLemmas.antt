@@ -21,9 +21,9 @@ max_min a b o = omega arith
 seen_raised : (line y s rest o other : ℕ) → (line ≡ y → o ≡ other) → seen (line == y) (max s o) (max rest other) ≡ max (seen (line == y) s rest) other
 seen_raised line y s rest o other same = ⊎_elim
     (λ (own : line ≡ y). let e : (line == y) ≡ true = same_number line y own in let f : o ≡ other = same own in
-        ap (λ (b : Bool). seen b (max s o) (max rest other)) e ∙ ap (λ (n : ℕ). min (max s n) (max rest other)) f ∙ max_min s rest other ∙ sym (ap (λ (b : Bool). max (seen b s rest) other) e))
+    ap (λ (b : Bool). seen b (max s o) (max rest other)) e ∙ ap (λ (n : ℕ). min (max s n) (max rest other)) f ∙ max_min s rest other ∙ sym (ap (λ (b : Bool). max (seen b s rest) other) e))
     (λ (apart : line ≢ y). let e : (line == y) ≡ false = not_same line y apart in
-        ap (λ (b : Bool). seen b (max s o) (max rest other)) e ∙ sym (ap (λ (b : Bool). max (seen b s rest) other) e))
+    ap (λ (b : Bool). seen b (max s o) (max rest other)) e ∙ sym (ap (λ (b : Bool). max (seen b s rest) other) e))
     (cases_eq line y)
 
 pub joined_age : (ways : ℕ) (other slots : List Slot) (y : ℕ) → age_in ways (map (raised ways other) slots) y ≡ max (age_in ways slots y) (age_in ways other y)
@@ -68,18 +68,18 @@ raising_more ways other i old now new changed one both within long raising is sa
     let x : Slot = get_or now i nobody in
     let sum = sum_by-set (λ (t : Slot). ways - t.age) now i (raised ways other x) nobody (omega (arith, long, within)) in
     let lower : one ≡ true → rank_of ways new < rank_of ways now = λ yes.
-        let more = greater yes nobody in
-        omega (arith, ap (rank_of ways) (is nobody), sum, more, age_most ways other x.line) in
+    let more = greater yes nobody in
+    omega (arith, ap (rank_of ways) (is nobody), sum, more, age_most ways other x.line) in
     elim one as (λ b. (b ≡ false → new ≡ now) → (b ≡ true → rank_of ways new < rank_of ways now) → both ≡ (if b then true else changed) → IsRaising ways other (i + 1) old new both) [
-      true ↦ λ _ falls all. record {
+      | true ↦ λ _ falls all. record {
         so_far = so_far;
         same = λ no. absurd (true≢false (sym all ∙ no));
         falls = λ _. elim changed as (λ b. (b ≡ false → now ≡ old) → (b ≡ true → rank_of ways now < rank_of ways old) → rank_of ways new < rank_of ways old) [
-          true ↦ λ _ before. omega (arith, falls refl, before refl)
-        | false ↦ λ kept _. omega (arith, falls refl, ap (rank_of ways) (kept refl))
+          | true ↦ λ _ before. omega (arith, falls refl, before refl)
+          | false ↦ λ kept _. omega (arith, falls refl, ap (rank_of ways) (kept refl))
         ] raising.same raising.falls;
       }
-    | false ↦ λ kept _ all. record {
+      | false ↦ λ kept _ all. record {
         so_far = so_far;
         same = λ no. kept refl ∙ raising.same (sym all ∙ no);
         falls = λ yes. omega (arith, ap (rank_of ways) (kept refl), raising.falls (sym all ∙ yes));

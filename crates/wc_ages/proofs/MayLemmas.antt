@@ -58,7 +58,7 @@ may_after m old line limit new is inside limit_as new_is =
     let low : limit ≤ old.ways = omega (arith, limit_as) in
     subst (λ (x : MayHeld). may_ages (record { ways = old.ways; ages = new }) ≡ may_accessed (may_ages x) line) is
     (same_ages old.ways (λ y. get_or new y old.ways) (may_accessed (may_ages old) line).age (λ y.
-        ap (λ (xs : List ℕ). get_or xs y old.ways) new_is ∙ age_fetched old.ways old.ages line limit y low inside ∙ ap (λ (n : ℕ). aged n (λ l. get_or old.ages l old.ways) line y) same))
+    ap (λ (xs : List ℕ). get_or xs y old.ways) new_is ∙ age_fetched old.ways old.ages line limit y low inside ∙ ap (λ (n : ℕ). aged n (λ l. get_or old.ages l old.ways) line y) same))
 
 -- A join.
 lowered_none : (ages : List ℕ) → lowered ages [] ≡ ages
@@ -89,20 +89,20 @@ pub lowering_more : (other : List ℕ) (i : ℕ) (old now new : List ℕ) (chang
     → IsLowering other (i + 1) old new both
 lowering_more other i old now new changed one both within long lowering is same less =
     let step : set now i (min (get_or now i 0) (get_or other i 0)) ≡ lowered old (take (i + 1) other) =
-        ap (λ (xs : List ℕ). set xs i (min (get_or xs i 0) (get_or other i 0))) lowering.so_far ∙ lowered_next old other i within long ∙ ap (λ (n : ℕ). lowered old (take n other)) (let e : suc i ≡ i + 1 = omega arith in e) in
+    ap (λ (xs : List ℕ). set xs i (min (get_or xs i 0) (get_or other i 0))) lowering.so_far ∙ lowered_next old other i within long ∙ ap (λ (n : ℕ). lowered old (take n other)) (let e : suc i ≡ i + 1 = omega arith in e) in
     let room : i < length now = omega (arith, ap length lowering.so_far, length-lowered old (take i other), long, within) in
     let total = sum_by-set (λ (a : ℕ). a) now i (min (get_or now i 0) (get_or other i 0)) 0 room in
     let lower : one ≡ true → sum new < sum now = λ yes. omega (arith, ap sum is, total, less yes) in
     elim one as (λ b. (b ≡ false → new ≡ now) → (b ≡ true → sum new < sum now) → both ≡ (if b then true else changed) → IsLowering other (i + 1) old new both) [
-      true ↦ λ _ falls all. record {
+      | true ↦ λ _ falls all. record {
         so_far = is ∙ step;
         same = λ no. absurd (true≢false (sym all ∙ no));
         falls = λ _. elim changed as (λ b. (b ≡ false → now ≡ old) → (b ≡ true → sum now < sum old) → sum new < sum old) [
-          true ↦ λ _ before. omega (arith, falls refl, before refl)
-        | false ↦ λ kept _. omega (arith, falls refl, ap sum (kept refl))
+          | true ↦ λ _ before. omega (arith, falls refl, before refl)
+          | false ↦ λ kept _. omega (arith, falls refl, ap sum (kept refl))
         ] lowering.same lowering.falls;
       }
-    | false ↦ λ kept _ all. record {
+      | false ↦ λ kept _ all. record {
         so_far = is ∙ step;
         same = λ no. kept refl ∙ lowering.same (sym all ∙ no);
         falls = λ yes. omega (arith, ap sum (kept refl), lowering.falls (sym all ∙ yes));
@@ -128,7 +128,7 @@ may_joined m old other_now other new is other_is same long new_is =
     let now : MayHeld = record { ways = old.ways; ages = new } in
     let ways_are : other.ways ≡ old.ways = ap (λ (x : MayHeld). x.ways) other_is ∙ same ∙ sym (ap (λ (x : MayHeld). x.ways) is) in
     let age : (y : ℕ) → get_or new y old.ways ≡ min (get_or old.ages y old.ways) (get_or other.ages y other.ways) = λ y.
-        ap (λ (xs : List ℕ). get_or xs y old.ways) new_is ∙ lowered_age old.ways old.ages other.ages y long ∙ ap (λ (n : ℕ). min (get_or old.ages y old.ways) (get_or other.ages y n)) (sym ways_are) in
+    ap (λ (xs : List ℕ). get_or xs y old.ways) new_is ∙ lowered_age old.ways old.ages other.ages y long ∙ ap (λ (n : ℕ). min (get_or old.ages y old.ways) (get_or other.ages y n)) (sym ways_are) in
     subst (λ (x : MayHeld). IsJoinOf MayPrecise (may_ages x) (may_ages other_now) (may_ages now)) is
     (subst (λ (x : MayHeld). IsJoinOf MayPrecise (may_ages old) (may_ages x) (may_ages now)) other_is (record {
       above_self = (refl, λ y. omega (arith, age y));

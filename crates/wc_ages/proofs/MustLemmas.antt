@@ -23,8 +23,8 @@ fresh_age ways (suc n) (suc m) y = at_ways (0 == y) ways (age_in ways (take n (r
 pub joins : (a b c : MustHeld) → b.ways ≡ a.ways → c.ways ≡ a.ways → c.slots ≡ map (raised a.ways b.slots) a.slots → IsJoinOf MustPrecise (must_ages a) (must_ages b) (must_ages c)
 joins a b c same kept is =
     let age : (y : ℕ) → age_in c.ways c.slots y ≡ max (age_in a.ways a.slots y) (age_in b.ways b.slots y) = λ y.
-        ap (λ (n : ℕ). age_in n c.slots y) kept ∙ ap (λ (xs : List Slot). age_in a.ways xs y) is ∙ joined_age a.ways b.slots a.slots y
-        ∙ ap (λ (n : ℕ). max (age_in a.ways a.slots y) (age_in n b.slots y)) (sym same) in
+    ap (λ (n : ℕ). age_in n c.slots y) kept ∙ ap (λ (xs : List Slot). age_in a.ways xs y) is ∙ joined_age a.ways b.slots a.slots y
+    ∙ ap (λ (n : ℕ). max (age_in a.ways a.slots y) (age_in n b.slots y)) (sym same) in
     record {
       above_self = (sym kept, λ y. omega (arith, age y));
       above_other = (same ∙ sym kept, λ y. omega (arith, age y));

@@ -61,9 +61,9 @@ holds_later s slots y age h = (suc h.0, omega (arith, h.1), h.2)
 seen_cases : (line y s rest : ℕ) → ((line ≡ y) × (seen (line == y) s rest ≡ s)) ⊎ (seen (line == y) s rest ≡ rest)
 seen_cases line y s rest = ⊎_elim
     (λ (same : line ≡ y). ⊎_elim
-        (λ (less : s < rest). inl (same, let e : seen (line == y) s rest ≡ s = grind (arith, nat_tests) in e))
-        (λ (more : rest ≤ s). inr (let e : seen (line == y) s rest ≡ rest = grind (arith, nat_tests) in e))
-        (cases_lt s rest))
+    (λ (less : s < rest). inl (same, let e : seen (line == y) s rest ≡ s = grind (arith, nat_tests) in e))
+    (λ (more : rest ≤ s). inr (let e : seen (line == y) s rest ≡ rest = grind (arith, nat_tests) in e))
+    (cases_lt s rest))
     (λ (apart : line ≢ y). inr (let e : seen (line == y) s rest ≡ rest = grind (arith, nat_tests) in e))
     (cases_eq line y)
 
@@ -131,11 +131,11 @@ place_cases ways line age s is = ⊎_elim
 pub place_exists : (ways : ℕ) (slots : List Slot) (line age : ℕ) → AreSlots ways slots → age ≡ age_in ways slots line → (k : ℕ) × IsPlaceAt ways line age slots k
 place_exists ways slots line age held is = ⊎_elim
     (λ (less : age < ways).
-        let own = age_found ways slots line (omega (arith, is, less)) in
-        (own.0, (own.1, λ d. place_own ways line age (get_or slots own.0 d) less (own.2 d).0 ((own.2 d).1 ∙ sym is))))
+    let own = age_found ways slots line (omega (arith, is, less)) in
+    (own.0, (own.1, λ d. place_own ways line age (get_or slots own.0 d) less (own.2 d).0 ((own.2 d).1 ∙ sym is))))
     (λ (more : ways ≤ age).
-        let free = old_slot (ways - 1) slots (omega (arith, held.some, held.sized, held.counted (ways - 1) (omega arith))) in
-        (free.0, (free.1, λ d. place_free ways line age (get_or slots free.0 d) more (free.2 d))))
+    let free = old_slot (ways - 1) slots (omega (arith, held.some, held.sized, held.counted (ways - 1) (omega arith))) in
+    (free.0, (free.1, λ d. place_free ways line age (get_or slots free.0 d) more (free.2 d))))
     (cases_lt age ways)
 
 -- A slot that hides no age of a line.
@@ -233,13 +233,13 @@ fetched_age ways slots line limit place y is inside right =
     let own : Slot = own_slot line in
     ⊎_elim
     (λ (same : y ≡ line).
-        let here : get_or (set grew place own) place nobody ≡ own = get_or-set_same grew place own nobody room in
-        let least = age_at ways (set grew place own) place nobody y (omega (arith, length-set grew place own)) (ap (λ (s : Slot). s.line) here ∙ sym same) in
-        let zero_age : age_in ways (set grew place own) y ≡ 0 = omega (arith, least, ap (λ (s : Slot). s.age) here) in
-        zero_age ∙ sym (aged_same limit (age_in ways slots) line y same))
+    let here : get_or (set grew place own) place nobody ≡ own = get_or-set_same grew place own nobody room in
+    let least = age_at ways (set grew place own) place nobody y (omega (arith, length-set grew place own)) (ap (λ (s : Slot). s.line) here ∙ sym same) in
+    let zero_age : age_in ways (set grew place own) y ≡ 0 = omega (arith, least, ap (λ (s : Slot). s.age) here) in
+    zero_age ∙ sym (aged_same limit (age_in ways slots) line y same))
     (λ (apart : y ≢ line).
-        let was : Hides ways y (get_or grew place nobody) = subst (Hides ways y) (sym (older_at ways limit slots place inside)) (hides_grown ways limit line y (get_or slots place nobody) apart (place_cases ways line limit (get_or slots place nobody) (right nobody))) in
-        hidden_set ways grew place own nobody y (inl (λ (e : line ≡ y). apart (sym e))) was ∙ grown_age ways limit slots y low ∙ sym (aged_other limit (age_in ways slots) line y apart))
+    let was : Hides ways y (get_or grew place nobody) = subst (Hides ways y) (sym (older_at ways limit slots place inside)) (hides_grown ways limit line y (get_or slots place nobody) apart (place_cases ways line limit (get_or slots place nobody) (right nobody))) in
+    hidden_set ways grew place own nobody y (inl (λ (e : line ≡ y). apart (sym e))) was ∙ grown_age ways limit slots y low ∙ sym (aged_other limit (age_in ways slots) line y apart))
     (cases_eq y line)
 
 counted_low : (ways : ℕ) (slots : List Slot) (line limit place k : ℕ) → AreSlots ways slots → place < length slots → suc k ≤ limit → suc k ≤ ways → younger (suc k) (set (map (older limit) slots) place (own_slot line)) ≤ suc k
@@ -264,9 +264,9 @@ counted_after : (ways : ℕ) (slots : List Slot) (line limit place k : ℕ) → 
 counted_after ways slots line limit place zero held inside right within = nothing_younger (set (map (older limit) slots) place (own_slot line))
 counted_after ways slots line limit place (suc k) held inside right within = ⊎_elim
     (λ (low : limit < suc k). ⊎_elim
-        (λ mine. counted_high ways slots line limit place (suc k) held inside mine.2 low within)
-        (λ leaves. absurd (omega (arith, leaves.0, low, within)))
-        (place_cases ways line limit (get_or slots place nobody) right))
+    (λ mine. counted_high ways slots line limit place (suc k) held inside mine.2 low within)
+    (λ leaves. absurd (omega (arith, leaves.0, low, within)))
+    (place_cases ways line limit (get_or slots place nobody) right))
     (λ (high : suc k ≤ limit). counted_low ways slots line limit place k held inside high within)
     (cases_lt limit (suc k))
 

@@ -86,7 +86,10 @@ fn raised_age(ways: u8, slot: &Slot, other: &[Slot], place: usize) -> u8
     if slot.age >= ways {
         return slot.age;
     }
-    if let Some(there) = other.get(place) && there.line == slot.line && there.age <= slot.age {
+    if let Some(there) = other.get(place)
+        && there.line == slot.line
+        && there.age <= slot.age
+    {
         return slot.age;
     }
     let age = age_among(ways, other, slot.line);

@@ -42,11 +42,26 @@ fn in_may(may: &May) -> [bool; 4]
 
 #[test]
 fn must_drops_the_oldest_line(rt: HostRuntime) -> Result<(), Fail> {
-    assert_eq!(rt; in_must(&must_after(1, &[1, 2])), [false, false, true, false]);
-    assert_eq!(rt; in_must(&must_after(2, &[1, 2, 3])), [false, false, true, true]);
-    assert_eq!(rt; in_must(&must_after(2, &[1, 2, 1, 3])), [false, true, false, true]);
-    assert_eq!(rt; in_must(&must_after(8, &[3, 2, 1, 0, 4, 5, 6, 7])), [true; 4]);
-    assert_eq!(rt; in_must(&must_after(8, &[3, 2, 1, 0, 4, 5, 6, 7, 8])), [true, true, true, false]);
+    assert_eq!(rt;
+        in_must(&must_after(1, &[1, 2])),
+        [false, false, true, false]
+    );
+    assert_eq!(rt;
+        in_must(&must_after(2, &[1, 2, 3])),
+        [false, false, true, true]
+    );
+    assert_eq!(rt;
+        in_must(&must_after(2, &[1, 2, 1, 3])),
+        [false, true, false, true]
+    );
+    assert_eq!(rt;
+        in_must(&must_after(8, &[3, 2, 1, 0, 4, 5, 6, 7])),
+        [true; 4]
+    );
+    assert_eq!(rt;
+        in_must(&must_after(8, &[3, 2, 1, 0, 4, 5, 6, 7, 8])),
+        [true, true, true, false]
+    );
     Ok(())
 }
 
@@ -69,7 +84,10 @@ fn must_joins_by_the_greater_age(rt: HostRuntime) -> Result<(), Fail> {
 #[test]
 fn may_joins_by_the_smaller_age(rt: HostRuntime) -> Result<(), Fail> {
     let alloc = rt.alloc();
-    assert_eq!(rt; in_may(&may_after(alloc, &[1, 2, 3])?), [false, false, true, true]);
+    assert_eq!(rt;
+        in_may(&may_after(alloc, &[1, 2, 3])?),
+        [false, false, true, true]
+    );
     let mut full = may_after(alloc, &[1, 2])?;
     full.join(&may_after(alloc, &[])?);
     assert_eq!(rt; in_may(&full), [false, true, true, false]);

@@ -24,9 +24,9 @@ waits_set waiting q within = get_or-set_same waiting q true false within
 pub waits_kept : (waiting : List Bool) (q p : ℕ) → Waits waiting p → Waits (set waiting q true) p
 waits_kept waiting q p waits = ⊎_elim
     (λ (same : p ≡ q). ⊎_elim
-        (λ (within : q < length waiting). subst (λ (n : ℕ). Waits (set waiting q true) n) (sym same) (waits_set waiting q within))
-        (λ (past : length waiting ≤ q). absurd (false≢true (sym (get_or_past waiting q false past) ∙ ap (λ (n : ℕ). get_or waiting n false) (sym same) ∙ waits)))
-        (cases_lt q (length waiting)))
+    (λ (within : q < length waiting). subst (λ (n : ℕ). Waits (set waiting q true) n) (sym same) (waits_set waiting q within))
+    (λ (past : length waiting ≤ q). absurd (false≢true (sym (get_or_past waiting q false past) ∙ ap (λ (n : ℕ). get_or waiting n false) (sym same) ∙ waits)))
+    (cases_lt q (length waiting)))
     (λ (apart : p ≢ q). get_or-set_other waiting q p true false apart ∙ waits)
     (cases_eq p q)
 
@@ -114,26 +114,32 @@ module _ {L : Type 0} (lat : Ghosts L) (refl_of : (a : lat.State) → lat.precis
   rise : (old : Option L) (brought : L) (new : Option L) (changed : Bool) → IsRaised lat old brought new changed → (b : L) × (new ≡ Some b) × Rise lat old brought b changed
   rise None brought new changed raised =
       let b : L = raised.0 in
-      let copy = raised.2 in
-      (b, raised.1, record {
-        same = λ first _ alike. (copy.alike.0 ∙ alike.0, copy.alike.1 ∙ alike.1);
-        above = subst (λ (x : lat.State). lat.precise (lat.state brought) x) (sym copy.same_state) (refl_of (lat.state brought));
-        grown = tt;
-        least = λ c _ less. subst (λ (x : lat.State). lat.precise x c) (sym copy.same_state) less;
-        unchanged = λ no. absurd (true≢false (sym raised.3 ∙ no));
-        falls = λ _. copy.small;
-      })
+      let copy = raised.2 in (
+        b,
+        raised.1,
+        record {
+          same = λ first _ alike. (copy.alike.0 ∙ alike.0, copy.alike.1 ∙ alike.1);
+          above = subst (λ (x : lat.State). lat.precise (lat.state brought) x) (sym copy.same_state) (refl_of (lat.state brought));
+          grown = tt;
+          least = λ c _ less. subst (λ (x : lat.State). lat.precise x c) (sym copy.same_state) less;
+          unchanged = λ no. absurd (true≢false (sym raised.3 ∙ no));
+          falls = λ _. copy.small;
+        },
+      )
   rise (Some a) brought new changed raised =
       let b : L = raised.0 in
-      let join = raised.2 in
-      (b, raised.1, record {
-        same = λ first alike _. (join.alike.0 ∙ alike.0, join.alike.1 ∙ alike.1);
-        above = join.above_other;
-        grown = join.above_self;
-        least = join.least;
-        unchanged = λ no. ap Some (sym (join.unchanged no));
-        falls = join.falls;
-      })
+      let join = raised.2 in (
+        b,
+        raised.1,
+        record {
+          same = λ first alike _. (join.alike.0 ∙ alike.0, join.alike.1 ∙ alike.1);
+          above = join.above_other;
+          grown = join.above_self;
+          least = join.least;
+          unchanged = λ no. ap Some (sym (join.unchanged no));
+          falls = join.falls;
+        },
+      )
 
   if_there : (P : L → Type 0) (old : Option L) → ((a : L) → old ≡ Some a → P a) → IfSome old P
   if_there P None all = tt
@@ -189,7 +195,7 @@ module _ {L : Type 0} (lat : Ghosts L) (refl_of : (a : lat.State) → lat.precis
             (cases_eq p q);
         least = λ other below less p a is. ⊎_elim
             (λ (same : p ≡ q). subst (λ (x : L). lat.precise (lat.state x) (other p)) (same_value p a same is)
-                (subst (λ (n : ℕ). lat.precise (lat.state b) (other n)) (sym same) (r.least (other q) (if_there (λ x. lat.precise (lat.state x) (other q)) (state_at states q) (below q)) less)))
+            (subst (λ (n : ℕ). lat.precise (lat.state b) (other n)) (sym same) (r.least (other q) (if_there (λ x. lat.precise (lat.state x) (other q)) (state_at states q) (below q)) less)))
             (λ (apart : p ≢ q). below p a (sym (elsewhere p apart) ∙ is))
             (cases_eq p q);
         work = less_work states waiting q b within flagged (r.falls refl);

@@ -28,7 +28,7 @@ module _ {L : Type 0} (lat : Ghosts L) (refl_of : (a : lat.State) → lat.precis
       let alike : Alike lat problem.first a.0 = fixing.same node a.0 a.1 in
       let within : node < length problem.access = omega (arith, fixing.flagged, waits_within waiting node waits, count) in
       let inside : (s : Step) → Contains own s → IfSome s.target (λ q. q < length states) = λ s among.
-          subst (λ (n : ℕ). IfSome s.target (λ q. q < n)) (sym fixing.counted) (All-contains (λ (t : Step). IfSome t.target (λ q. q < problem.nodes)) problem.steps s targets (leave.inside s among).0) in
+      subst (λ (n : ℕ). IfSome s.target (λ q. q < n)) (sym fixing.counted) (All-contains (λ (t : Step). IfSome t.target (λ q. q < problem.nodes)) problem.steps s targets (leave.inside s among).0) in
       record {
         counted = fixing.flagged ∙ sym fixing.counted;
         waits = waits;
@@ -52,9 +52,9 @@ module _ {L : Type 0} (lat : Ghosts L) (refl_of : (a : lat.State) → lat.precis
       let flagged : start < length none_waits = omega (arith, length-replicate problem.nodes false) in
       let here : state_at states start ≡ Some problem.first = get_or-set_same nothing start (Some problem.first) None within in
       let only : (p : ℕ) (a : L) → state_at states p ≡ Some a → (p ≡ start) × (a ≡ problem.first) = λ p a there. ⊎_elim
-          (λ (same : p ≡ start). (same, same_Some a problem.first (sym there ∙ ap (state_at states) same ∙ here)))
-          (λ (apart : p ≢ start). absurd (none-some a (sym (nothing_there problem.nodes p) ∙ sym (get_or-set_other nothing start p (Some problem.first) None apart) ∙ there)))
-          (cases_eq p start) in
+      (λ (same : p ≡ start). (same, same_Some a problem.first (sym there ∙ ap (state_at states) same ∙ here)))
+      (λ (apart : p ≢ start). absurd (none-some a (sym (nothing_there problem.nodes p) ∙ sym (get_or-set_other nothing start p (Some problem.first) None apart) ∙ there)))
+      (cases_eq p start) in
       record {
         counted = length-set nothing start (Some problem.first) ∙ length-replicate problem.nodes None;
         flagged = length-set none_waits start true ∙ length-replicate problem.nodes false;

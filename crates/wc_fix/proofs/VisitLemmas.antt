@@ -34,26 +34,26 @@ module _ {L : Type 0} (lat : Ghosts L) (refl_of : (a : lat.State) → lat.precis
       let begun = old.begun in
       let fits : Alike lat problem.first brought = alike_both problem.first begun.0 brought (old.same problem.start begun.0 begun.1) (alike problem.start begun.0 begun.1) in
       let closed : (t : Step) (r : ℕ) (a : L) → Contains problem.steps t → t.target ≡ Some r → state_at new_states t.source ≡ Some a
-              → Waits new_waiting t.source ⊎ (((t.source ≡ node) × Contains own t) ⊎ IsAbove lat new_states (after_of lat problem t.source a) r) = λ t r a among target there.
-          ⊎_elim (λ waits. inl waits) (λ (was : state_at states t.source ≡ Some a). ⊎_elim
-              (λ (waits : Waits waiting t.source). inl (grows.kept t.source waits))
-              (λ later. ⊎_elim
-                  (λ (left : (t.source ≡ node) × Contains (s ∷ own) t). ⊎_elim
-                      (λ (same : s ≡ t). ⊎_elim
-                          (λ (waits : Waits waiting node). inl (grows.kept t.source (subst (λ (n : ℕ). Waits waiting n) (sym left.0) waits)))
-                          (λ (held : (b : L) × (state_at states node ≡ Some b) × (after_of lat problem node b ≡ lat.state brought)).
-                              let value : held.0 ≡ a = same_Some held.0 a (sym held.1 ∙ ap (state_at states) (sym left.0) ∙ was) in
-                              let at : q ≡ r = same_Some q r (sym to ∙ ap (λ (x : Step). x.target) same ∙ target) in
-                              let is : lat.state brought ≡ after_of lat problem t.source a = sym held.2 ∙ ap (after_of lat problem node) value ∙ ap (λ (n : ℕ). after_of lat problem n a) (sym left.0) in
-                              inr (inr (subst (λ (n : ℕ). IsAbove lat new_states (after_of lat problem t.source a) n) at
-                                  (subst (λ (x : lat.State). IsAbove lat new_states x q) is grows.reached))))
-                          visit.carried)
-                      (λ (other : Contains own t). inr (inl (left.0, other)))
-                      (contains_cons s own t left.1))
-                  (λ above. inr (inr (above_through new_states r (after_of lat problem t.source a) above.0 above.2 (grows.grown r above.0 above.1))))
-                  later)
-              (old.closed t r a among target was))
-          (grows.stays t.source a there) in
+      → Waits new_waiting t.source ⊎ (((t.source ≡ node) × Contains own t) ⊎ IsAbove lat new_states (after_of lat problem t.source a) r) = λ t r a among target there.
+      ⊎_elim (λ waits. inl waits) (λ (was : state_at states t.source ≡ Some a). ⊎_elim
+      (λ (waits : Waits waiting t.source). inl (grows.kept t.source waits))
+      (λ later. ⊎_elim
+      (λ (left : (t.source ≡ node) × Contains (s ∷ own) t). ⊎_elim
+      (λ (same : s ≡ t). ⊎_elim
+      (λ (waits : Waits waiting node). inl (grows.kept t.source (subst (λ (n : ℕ). Waits waiting n) (sym left.0) waits)))
+      (λ (held : (b : L) × (state_at states node ≡ Some b) × (after_of lat problem node b ≡ lat.state brought)).
+      let value : held.0 ≡ a = same_Some held.0 a (sym held.1 ∙ ap (state_at states) (sym left.0) ∙ was) in
+      let at : q ≡ r = same_Some q r (sym to ∙ ap (λ (x : Step). x.target) same ∙ target) in
+      let is : lat.state brought ≡ after_of lat problem t.source a = sym held.2 ∙ ap (after_of lat problem node) value ∙ ap (λ (n : ℕ). after_of lat problem n a) (sym left.0) in
+      inr (inr (subst (λ (n : ℕ). IsAbove lat new_states (after_of lat problem t.source a) n) at
+      (subst (λ (x : lat.State). IsAbove lat new_states x q) is grows.reached))))
+      visit.carried)
+      (λ (other : Contains own t). inr (inl (left.0, other)))
+      (contains_cons s own t left.1))
+      (λ above. inr (inr (above_through new_states r (after_of lat problem t.source a) above.0 above.2 (grows.grown r above.0 above.1))))
+      later)
+      (old.closed t r a among target was))
+      (grows.stays t.source a there) in
       record {
         fixing = record {
           counted = grows.counted ∙ old.counted;
@@ -70,11 +70,11 @@ module _ {L : Type 0} (lat : Ghosts L) (refl_of : (a : lat.State) → lat.precis
         carried = ⊎_elim
             (λ (waits : Waits waiting node). inl (grows.kept node waits))
             (λ (held : (b : L) × (state_at states node ≡ Some b) × (after_of lat problem node b ≡ lat.state brought)).
-                let now = grows.grown node held.0 held.1 in
-                ⊎_elim
-                (λ (waits : Waits new_waiting node). inl waits)
-                (λ (was : state_at states node ≡ Some now.0). inr (now.0, now.1, ap (after_of lat problem node) (same_Some now.0 held.0 (sym was ∙ held.1)) ∙ held.2))
-                (grows.stays node now.0 now.1))
+            let now = grows.grown node held.0 held.1 in
+            ⊎_elim
+            (λ (waits : Waits new_waiting node). inl waits)
+            (λ (was : state_at states node ≡ Some now.0). inr (now.0, now.1, ap (after_of lat problem node) (same_Some now.0 held.0 (sym was ∙ held.1)) ∙ held.2))
+            (grows.stays node now.0 now.1))
             visit.carried;
         brings = λ other solves t r among. visit.brings other solves t r (contains_tail s own t among);
       }
@@ -96,12 +96,12 @@ module _ {L : Type 0} (lat : Ghosts L) (refl_of : (a : lat.State) → lat.precis
           closed = λ t r a among target there. ⊎_elim
               (λ waits. inl waits)
               (λ later. ⊎_elim
-                  (λ (left : (t.source ≡ node) × Contains (s ∷ own) t). ⊎_elim
-                      (λ (same : s ≡ t). absurd (none-some r (sym out ∙ ap (λ (x : Step). x.target) same ∙ target)))
-                      (λ (other : Contains own t). inr (inl (left.0, other)))
-                      (contains_cons s own t left.1))
-                  (λ above. inr (inr above))
-                  later)
+              (λ (left : (t.source ≡ node) × Contains (s ∷ own) t). ⊎_elim
+              (λ (same : s ≡ t). absurd (none-some r (sym out ∙ ap (λ (x : Step). x.target) same ∙ target)))
+              (λ (other : Contains own t). inr (inl (left.0, other)))
+              (contains_cons s own t left.1))
+              (λ above. inr (inr above))
+              later)
               (old.closed t r a among target there);
         };
         carried = visit.carried;
@@ -186,9 +186,9 @@ module _ {L : Type 0} (lat : Ghosts L) (refl_of : (a : lat.State) → lat.precis
           known = λ p waits. old.known p (waits_off waiting node p within waits).1;
           closed = λ t r a among target there. ⊎_elim
               (λ (waits : Waits waiting t.source). ⊎_elim
-                  (λ (here : t.source ≡ node). inr (inl (here, at.leave.all t among here)))
-                  (λ (apart : t.source ≢ node). inl (get_or-set_other waiting node t.source false false apart ∙ waits))
-                  (cases_eq t.source node))
+              (λ (here : t.source ≡ node). inr (inl (here, at.leave.all t among here)))
+              (λ (apart : t.source ≢ node). inl (get_or-set_other waiting node t.source false false apart ∙ waits))
+              (cases_eq t.source node))
               (λ later. ⊎_elim (λ (none : ⊥). absurd none) (λ above. inr (inr above)) later)
               (old.closed t r a among target there);
         };

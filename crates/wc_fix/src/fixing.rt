@@ -136,7 +136,11 @@ impl<L: Lattice> Fixing<L> {
         let mut waiting = vec![in alloc; false; nodes as usize]?;
         states[start as usize] = Some(first);
         waiting[start as usize] = true;
-        Ok(Fixing { states, waiting, from: start as usize })
+        Ok(Fixing {
+            states,
+            waiting,
+            from: start as usize,
+        })
     }
 }
 

@@ -24,7 +24,14 @@ pub fn solve<L: Lattice>(
     ensures { IfOk result (λ v. IsSolutionOf ⟦<L as Lattice>⟧ graph.now access.now first v.items) }
 {
     let nodes = graph.nodes.items().len() as u32;
-    solve_steps(alloc, nodes, graph.steps.items(), graph.start, access, first)
+    solve_steps(
+        alloc,
+        nodes,
+        graph.steps.items(),
+        graph.start,
+        access,
+        first,
+    )
 }
 
 /// The same over numbered nodes and the steps between them.

@@ -12,6 +12,6 @@ loop-age-preserved c =
     let within : i < length old = omega (arith, c.loop-age-test.true, value) in
     let long : length now ≡ length old = c.loop-age.auto.age-items ∙ value in
     elim c.if-age-limit.branch [
-      then-age-limit w ↦ w.age-items-is ∙ ages_yes c.args.limit old now i within c.loop-age.invariant long w.if-age-limit.true
-    | else-age-limit w ↦ w.age-items-is ∙ ages_no c.args.limit old now i within c.loop-age.invariant long w.if-age-limit.false
+      | then-age-limit w ↦ w.age-items-is ∙ ages_yes c.args.limit old now i within c.loop-age.invariant long w.if-age-limit.true
+      | else-age-limit w ↦ w.age-items-is ∙ ages_no c.args.limit old now i within c.loop-age.invariant long w.if-age-limit.false
     ]

@@ -12,6 +12,6 @@ loop-slot-preserved c =
     let now = c.loop-slot.slots in
     let i = c.loop-slot.slot-index in
     elim c.if-slot-limit.branch [
-      then-slot-limit w ↦ w.slots-is ∙ grows_yes c.args.limit old now i nobody c.loop-slot-test.true c.loop-slot.invariant c.loop-slot.auto.slots w.if-slot-limit.true
-    | else-slot-limit w ↦ w.slots-is ∙ set-get_or now i nobody ∙ grows_no c.args.limit old now i nobody c.loop-slot-test.true c.loop-slot.invariant c.loop-slot.auto.slots w.if-slot-limit.false
+      | then-slot-limit w ↦ w.slots-is ∙ grows_yes c.args.limit old now i nobody c.loop-slot-test.true c.loop-slot.invariant c.loop-slot.auto.slots w.if-slot-limit.true
+      | else-slot-limit w ↦ w.slots-is ∙ set-get_or now i nobody ∙ grows_no c.args.limit old now i nobody c.loop-slot-test.true c.loop-slot.invariant c.loop-slot.auto.slots w.if-slot-limit.false
     ]

@@ -17,5 +17,5 @@ returns-clause-ages c =
     let line : ℕ = c.args.line in
     let inside : line < length ages = omega (arith, c.requires, ap (λ (m : MayHeld). length m.ages) c.self.view_is) in
     let limit : c.limit_of-limit.result ≡ min (get_or ages line 0 + 1) c.self.inside.ways =
-        c.limit_of-limit.ensures ∙ ap (λ (n : ℕ). min (n + 1) c.self.inside.ways) (c.index.ensures ∙ get_or_default ages line c.index.result.now 0 inside) in
+    c.limit_of-limit.ensures ∙ ap (λ (n : ℕ). min (n + 1) c.self.inside.ways) (c.index.ensures ∙ get_or_default ages line c.index.result.now 0 inside) in
     may_after c.args.self.now old line c.limit_of-limit.result (set c.grow.new.ages.items line 0) c.self.view_is inside limit (ap (λ (xs : List ℕ). set xs line 0) c.grow.ensures)
