@@ -1,2 +1,0 @@
-pub mod DualityLemmas
-pub mod WalkLemmas
