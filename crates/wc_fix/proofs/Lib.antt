@@ -1,1 +1,3 @@
-pub mod FixingLemmas
+pub mod RaisingLemmas
+pub mod SolutionLemmas
+pub mod VisitLemmas

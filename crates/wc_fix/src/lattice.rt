@@ -1,4 +1,5 @@
-ghost use Rattle.std.specs.Prelude.{◌≡◌, ℕ, ◌<◌, ◌^◌, true, false, IfOk};
+ghost use Rattle.std.specs.Prelude.{◌≡◌, ℕ, ◌<◌, ◌^◌, IfOk, false, true};
+ghost use Rattle.wc_fix.specs.Orders.{IsLeast, KeepsOrder};
 
 use std::alloc::AllocError;
 
@@ -28,7 +29,7 @@ pub trait Lattice: Drop {
         ensures lines { lines self.new ≡ lines self.old }
         ensures above_self { precise (state self.old) (state self.new) }
         ensures above_other { precise (state other.now) (state self.new) }
-        ensures least { (c : State) → precise (state self.old) c → precise (state other.now) c → precise (state self.new) c }
+        ensures least { IsLeast precise (state self.old) (state other.now) (state self.new) }
         ensures unchanged { result ≡ false → self.new ≡ self.old }
         ensures changed { result ≡ true → rank self.new < rank self.old };
 
@@ -56,5 +57,5 @@ pub trait Lattice: Drop {
 
     ghost precise_trans: { (a b c : State) → precise a b → precise b c → precise a c };
 
-    ghost access_keeps: { (a b : State) (line : ℕ) → precise a b → precise (accessed a line) (accessed b line) };
+    ghost access_keeps: { KeepsOrder precise accessed };
 }

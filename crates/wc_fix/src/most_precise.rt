@@ -1,5 +1,5 @@
-ghost use Rattle.std.specs.Prelude.{◌≡◌, ℕ, ◌<◌, All, IfOk, IfSome, length};
-ghost use Rattle.wc_fix.specs.Solved.{IsSolved};
+ghost use Rattle.std.specs.Prelude.{◌≡◌, ℕ, ◌<◌, IfOk, length};
+ghost use Rattle.wc_fix.specs.Solved.{FitIn, IsSolutionOf, IsSolved};
 ghost use Rattle.wc_model.specs.Flow.Ends.{step_ends};
 ghost use Rattle.wc_model.specs.Flow.Walks.{AreSteps};
 ghost use Rattle.wc_model.specs.Program.Graphs.{IsGraph, LeadsIn};
@@ -20,8 +20,8 @@ pub fn solve<L: Lattice>(
 ) -> Result<Vec<Option<L>>, AllocError>
     requires graph { IsGraph graph.now }
     requires count { length access.now ≡ length graph.now.nodes }
-    requires lines { All (λ x. IfSome x (λ line. line < L.lines first)) access.now }
-    ensures { IfOk result (λ v. IsSolved L.state L.precise L.accessed (length graph.now.nodes) graph.now.steps access.now graph.now.start (L.state first) v.items) }
+    requires lines { FitIn ⟦<L as Lattice>⟧ first access.now }
+    ensures { IfOk result (λ v. IsSolutionOf ⟦<L as Lattice>⟧ graph.now access.now first v.items) }
 {
     let nodes = graph.nodes.items().len() as u32;
     solve_steps(
@@ -47,8 +47,8 @@ pub fn solve_steps<L: Lattice>(
     requires start { start < nodes }
     requires reached { (p : ℕ) → p < nodes → Reaches (LeadsIn steps.now) start p }
     requires count { length access.now ≡ nodes }
-    requires lines { All (λ x. IfSome x (λ line. line < L.lines first)) access.now }
-    ensures { IfOk result (λ v. IsSolved L.state L.precise L.accessed nodes steps.now access.now start (L.state first) v.items) }
+    requires lines { FitIn ⟦<L as Lattice>⟧ first access.now }
+    ensures { IfOk result (λ v. IsSolved ⟦<L as Lattice>⟧ nodes steps.now access.now start first v.items) }
 {
     let starts = starts(alloc, nodes, steps)?;
     let mut fixing = Fixing::new(alloc, nodes, start, first)?;

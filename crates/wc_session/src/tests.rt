@@ -260,6 +260,7 @@ fn two_facts(alloc: Global) -> Result<Vec<Fact>, AllocError> {
     facts.push(Fact::Loop {
         at: 0x8004,
         bound: Some(9),
+        within: Table::new(Vec::new(alloc)),
     })?;
     facts.push(Fact::Checksum {
         name: Table::new(name),

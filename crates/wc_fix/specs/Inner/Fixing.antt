@@ -1,6 +1,10 @@
 -- What holds while `solve` is at work.
-use Rattle.std.specs.Prelude.{ℕ, ◌≡◌, ◌<◌, ◌≤◌, ◌+◌, ◌*◌, ◌^◌, ◌⊎◌, Bool, true, false, List, [], ◌∷◌, Option, None, Some, IfSome, All, Contains, length, slice_index_or, slice_set, if◌then◌else◌}
+use Rattle.std.specs.Prelude.{ℕ, ◌≡◌, ◌<◌, ◌≤◌, ◌+◌, ◌*◌, ◌^◌, ◌⊎◌, Bool, true, false, List, [], ◌∷◌, Option, None, Some, IfSome, All, Contains, length, replicate, slice_index_or, slice_set, if◌then◌else◌}
 use Rattle.std.specs.List.{sum_by}
+use Rattle.wc_fix.specs.declared.fixing.Fixing.{Fixing}
+use Rattle.wc_fix.specs.declared.lattice.Lattice.{Ghosts}
+use Rattle.wc_fix.specs.Orders.{IsLeast}
+use Rattle.wc_fix.specs.Solved.{Alike, AllAlike}
 use Rattle.wc_model.specs.declared.graphs.Step.{Step}
 use Rattle.wc_model.specs.Cache.Ages.{IsSolution, fetched}
 use Rattle.wc_model.specs.Flow.Ends.{step_ends}
@@ -12,17 +16,24 @@ state_at states p = slice_index_or states p None
 abbrev pub Waits : List Bool → ℕ → Type 0
 Waits waiting p = slice_index_or waiting p false ≡ true
 
+-- no node waits, from one place to another
+abbrev pub AreIdle : List Bool → ℕ → ℕ → Type 0
+AreIdle waiting from to = (p : ℕ) → from ≤ p → p < to → slice_index_or waiting p false ≡ false
+
+abbrev pub IsIdle : List Bool → Type 0
+IsIdle waiting = (p : ℕ) → slice_index_or waiting p false ≡ false
+
 -- The work that is left: each change of a state lowers its weight, and lets its node wait at most once more.
-abbrev pub weight : {L : Type 0} → (L → ℕ) → Option L → ℕ
-weight rank None = 2 ^ 64
-weight rank (Some a) = rank a
+abbrev pub weight : {L : Type 0} → Ghosts L → Option L → ℕ
+weight lat None = 2 ^ 64
+weight lat (Some a) = lat.rank a
 
 abbrev pub flag : Bool → ℕ
 flag true = 1
 flag false = 0
 
-abbrev pub work_left : {L : Type 0} → (L → ℕ) → List (Option L) → List Bool → ℕ
-work_left rank states waiting = 2 * sum_by (weight rank) states + sum_by flag waiting
+abbrev pub work_left : {L : Type 0} → Ghosts L → List (Option L) → List Bool → ℕ
+work_left lat states waiting = 2 * sum_by (weight lat) states + sum_by flag waiting
 
 -- What is solved, from the value `first`.
 pub record Problem (L : Type 0) : Type 0 where
@@ -33,31 +44,23 @@ pub record Problem (L : Type 0) : Type 0 where
   pub first : L
 
 -- the state at a node is above what a step brings there
-abbrev pub IsAbove : {L State : Type 0} → (L → State) → (State → State → Type 0) → List (Option L) → State → ℕ → Type 0
-IsAbove {L} state precise states brought q = (b : L) × (state_at states q ≡ Some b) × precise brought (state b)
-
--- A value has the shape of another.
-module _ {L : Type 0} (shape lines : L → ℕ) where
-  abbrev pub Alike : L → L → Type 0
-  Alike a b = (shape b ≡ shape a) × (lines b ≡ lines a)
-
-  abbrev pub AllAlike : L → List (Option L) → Type 0
-  AllAlike a states = (p : ℕ) (b : L) → state_at states p ≡ Some b → Alike a b
+abbrev pub IsAbove : {L : Type 0} (lat : Ghosts L) → List (Option L) → lat.State → ℕ → Type 0
+IsAbove {L} lat states brought q = (b : L) × (state_at states q ≡ Some b) × lat.precise brought (lat.state b)
 
 -- One state is raised above `after`: an unknown one is a copy of it.
-module _ {L State : Type 0} (state : L → State) (shape lines rank : L → ℕ) (precise : State → State → Type 0) where
+module _ {L : Type 0} (lat : Ghosts L) where
   pub record IsCopy (after b : L) : Type 0 where
-    pub same_state : state b ≡ state after
-    pub alike : Alike shape lines after b
-    pub small : rank b < 2 ^ 64
+    pub same_state : lat.state b ≡ lat.state after
+    pub alike : Alike lat after b
+    pub small : lat.rank b < 2 ^ 64
 
   pub record IsJoin (a after b : L) (changed : Bool) : Type 0 where
-    pub alike : Alike shape lines a b
-    pub above_self : precise (state a) (state b)
-    pub above_other : precise (state after) (state b)
-    pub least : (c : State) → precise (state a) c → precise (state after) c → precise (state b) c
+    pub alike : Alike lat a b
+    pub above_self : lat.precise (lat.state a) (lat.state b)
+    pub above_other : lat.precise (lat.state after) (lat.state b)
+    pub least : IsLeast lat.precise (lat.state a) (lat.state after) (lat.state b)
     pub unchanged : changed ≡ false → b ≡ a
-    pub falls : changed ≡ true → rank b < rank a
+    pub falls : changed ≡ true → lat.rank b < lat.rank a
 
   abbrev pub IsRaised : Option L → L → Option L → Bool → Type 0
   IsRaised None after new changed = (b : L) × (new ≡ Some b) × IsCopy after b × (changed ≡ true)
@@ -76,29 +79,28 @@ module _ {L State : Type 0} (state : L → State) (shape lines rank : L → ℕ)
   IsBrought None after states waiting new_states new_waiting = (new_states ≡ states) × (new_waiting ≡ waiting)
   IsBrought (Some target) after states waiting new_states new_waiting = IsLed target after states waiting new_states new_waiting
 
-module _ {L State : Type 0} (state : L → State) (shape lines : L → ℕ) (precise : State → State → Type 0) (accessed : State → ℕ → State) where
-  abbrev pub Solves : Problem L → (ℕ → State) → Type 0
-  Solves problem other = IsSolution precise accessed problem.steps problem.access problem.start (state problem.first) other
+  abbrev pub Solves : Problem L → (ℕ → lat.State) → Type 0
+  Solves problem other = IsSolution lat.precise lat.accessed problem.steps problem.access problem.start (lat.state problem.first) other
 
-  abbrev pub after_of : Problem L → ℕ → L → State
-  after_of problem p a = fetched precise accessed (slice_index_or problem.access p None) (state a)
+  abbrev pub after_of : Problem L → ℕ → L → lat.State
+  after_of problem p a = fetched lat.precise lat.accessed (slice_index_or problem.access p None) (lat.state a)
 
   -- Steps for which `left` holds are still to be followed.
   pub record IsFixing (problem : Problem L) (states : List (Option L)) (waiting : List Bool) (left : Step → Type 0) : Type 0 where
     pub counted : length states ≡ problem.nodes
     pub flagged : length waiting ≡ problem.nodes
-    pub same : AllAlike shape lines problem.first states
-    pub begun : IsAbove state precise states (state problem.first) problem.start
-    pub least : (other : ℕ → State) → Solves problem other → (p : ℕ) (a : L) → state_at states p ≡ Some a → precise (state a) (other p)
+    pub same : AllAlike lat problem.first states
+    pub begun : IsAbove lat states (lat.state problem.first) problem.start
+    pub least : (other : ℕ → lat.State) → Solves problem other → (p : ℕ) (a : L) → state_at states p ≡ Some a → lat.precise (lat.state a) (other p)
     pub known : (p : ℕ) → Waits waiting p → (a : L) × (state_at states p ≡ Some a)
     pub closed : (s : Step) (q : ℕ) (a : L) → Contains problem.steps s → s.target ≡ Some q → state_at states s.source ≡ Some a
-        → Waits waiting s.source ⊎ (left s ⊎ IsAbove state precise states (after_of problem s.source a) q)
+        → Waits waiting s.source ⊎ (left s ⊎ IsAbove lat states (after_of problem s.source a) q)
 
   -- `node` is looked at: `own` are its steps that are still to come, and `after` is brought along them.
   pub record IsVisit (problem : Problem L) (node : ℕ) (above : L) (own : List Step) (states : List (Option L)) (waiting : List Bool) : Type 0 where
     pub fixing : IsFixing problem states waiting (λ s. (s.source ≡ node) × Contains own s)
-    pub carried : Waits waiting node ⊎ ((a : L) × (state_at states node ≡ Some a) × (after_of problem node a ≡ state above))
-    pub brings : (other : ℕ → State) → Solves problem other → (s : Step) (q : ℕ) → Contains own s → s.target ≡ Some q → precise (state above) (other q)
+    pub carried : Waits waiting node ⊎ ((a : L) × (state_at states node ≡ Some a) × (after_of problem node a ≡ lat.state above))
+    pub brings : (other : ℕ → lat.State) → Solves problem other → (s : Step) (q : ℕ) → Contains own s → s.target ≡ Some q → lat.precise (lat.state above) (other q)
 
   -- `own` are the steps of `node` in the problem, and `its_line` is fetched there
   pub record IsAt (problem : Problem L) (node : ℕ) (own : List Step) (its_line : Option ℕ) : Type 0 where
@@ -111,25 +113,56 @@ module _ {L State : Type 0} (state : L → State) (shape lines : L → ℕ) (pre
     pub waits : Waits waiting node
     pub held : L
     pub holds : state_at states node ≡ Some held
-    pub fits : IfSome its_line (λ line. line < lines held)
-    pub same : AllAlike shape lines held states
+    pub fits : IfSome its_line (λ line. line < lat.lines held)
+    pub same : AllAlike lat held states
     pub targets : All (λ s. IfSome s.target (λ q. q < length states)) own
 
-  -- all steps in `own` are followed
-  abbrev pub Follows : L → List Step → List (Option L) → List Bool → List (Option L) → List Bool → Type 0
-  Follows above own states waiting new_states new_waiting =
-      (problem : Problem L) (node : ℕ) → IsVisit problem node above own states waiting → IsVisit problem node above [] new_states new_waiting
-
-  abbrev pub KeepsFixing : ℕ → List Step → Option ℕ → List (Option L) → List Bool → List (Option L) → List Bool → Type 0
-  KeepsFixing node own its_line states waiting new_states new_waiting =
-      (problem : Problem L) → IsAt problem node own its_line → IsFixing problem states waiting (λ _. ⊥) → IsFixing problem new_states new_waiting (λ _. ⊥)
-
--- Some of a node's steps are followed: `own` are those to come.
-module _ {L State : Type 0} (state : L → State) (shape lines rank : L → ℕ) (precise : State → State → Type 0) (accessed : State → ℕ → State) where
+  -- some of a node's steps are followed: `own` are those to come
   pub record IsLeading (above : L) (all own : List Step) (states : List (Option L)) (waiting : List Bool) (new_states : List (Option L)) (new_waiting : List Bool) : Type 0 where
     pub counted : length new_states ≡ length states
     pub flagged : length new_waiting ≡ length waiting
-    pub same : AllAlike shape lines above new_states
-    pub work : work_left rank new_states new_waiting ≤ work_left rank states waiting
-    pub visits : (problem : Problem L) (node : ℕ) → IsVisit state shape lines precise accessed problem node above all states waiting
-        → IsVisit state shape lines precise accessed problem node above own new_states new_waiting
+    pub same : AllAlike lat above new_states
+    pub work : work_left lat new_states new_waiting ≤ work_left lat states waiting
+    pub visits : (problem : Problem L) (node : ℕ) → IsVisit problem node above all states waiting
+        → IsVisit problem node above own new_states new_waiting
+
+  -- What the methods of `Fixing` need and do.
+  abbrev pub Ready : Fixing L → ℕ → List Step → Option ℕ → Type 0
+  Ready f node own line = IsReady f.states.items f.waiting.items node own line
+
+  abbrev pub Leads : ℕ → L → Fixing L → Fixing L → Type 0
+  Leads target after old new = IsLed target after old.states.items old.waiting.items new.states.items new.waiting.items
+
+  abbrev pub Brings : Option ℕ → L → Fixing L → Fixing L → Type 0
+  Brings target after old new = IsBrought target after old.states.items old.waiting.items new.states.items new.waiting.items
+
+  -- all steps in `own` are followed
+  abbrev pub Follows : L → List Step → Fixing L → Fixing L → Type 0
+  Follows above own old new =
+      (problem : Problem L) (node : ℕ) → IsVisit problem node above own old.states.items old.waiting.items → IsVisit problem node above [] new.states.items new.waiting.items
+
+  abbrev pub KeepsFixing : ℕ → List Step → Option ℕ → Fixing L → Fixing L → Type 0
+  KeepsFixing node own line old new =
+      (problem : Problem L) → IsAt problem node own line → IsFixing problem old.states.items old.waiting.items (λ _. ⊥) → IsFixing problem new.states.items new.waiting.items (λ _. ⊥)
+
+  abbrev pub work_of : Fixing L → ℕ
+  work_of f = work_left lat f.states.items f.waiting.items
+
+  abbrev pub AddsNoWork : Fixing L → Fixing L → Type 0
+  AddsNoWork old new = work_of new ≤ work_of old
+
+  abbrev pub LeavesLess : Fixing L → Fixing L → Type 0
+  LeavesLess old new = work_of new < work_of old
+
+-- the start alone has a state, and waits
+pub record IsBegun {L : Type 0} (nodes start : ℕ) (first : L) (f : Fixing L) : Type 0 where
+  pub states : f.states.items ≡ slice_set (replicate nodes None) start (Some first)
+  pub waiting : f.waiting.items ≡ slice_set (replicate nodes false) start true
+
+-- both lists have an item for each node
+abbrev pub IsPaired : {L : Type 0} → Fixing L → Type 0
+IsPaired f = length f.waiting.items ≡ length f.states.items
+
+-- each step leads to a node, or to the exit
+abbrev pub LeadInside : {L : Type 0} → Fixing L → List Step → Type 0
+LeadInside f steps = All (λ s. IfSome s.target (λ q. q < length f.states.items)) steps

@@ -1,6 +1,6 @@
 use Rattle.std.proofs.Common.{◌≡◌, ℕ, List, Bool, true, false, Option, None, Some, replicate, set, refl, sym, subst, arith}
 use Rattle.wc_fix.specs.Inner.Fixing.{IsFixing, Problem}
-use Rattle.wc_fix.proofs.FixingLemmas.{fixing_begins, fixing_ends, ready}
+use Rattle.wc_fix.proofs.SolutionLemmas.{fixing_begins, fixing_ends, ready}
 use Rattle.wc_fix.proofs.most_precise.solve_steps.Goals as goal
 
 pub loop-node-init : goal.loop-node-init
@@ -9,14 +9,14 @@ loop-node-init g c =
     let laws = g.met.L.Lattice in
     let problem : Problem g.row.L.Denot = record { nodes = c.args.nodes; steps = c.args.steps.now; access = c.args.access.now; start = c.args.start; first = c.args.first } in
     let e = c.in_ok-fixing.ensures in
-    rw (e.states, e.waiting) (fixing_begins x.state x.shape x.lines x.rank x.precise laws.precise_refl laws.precise_trans x.accessed laws.access_keeps problem c.requires.start)
+    rw (e.states, e.waiting) (fixing_begins x laws.precise_refl laws.precise_trans laws.access_keeps problem c.requires.start)
 
 pub visit-requires : goal.visit-requires
 visit-requires g c =
     let x = g.L.Lattice in
     let laws = g.met.L.Lattice in
     let problem : Problem g.row.L.Denot = record { nodes = c.args.nodes; steps = c.args.steps.now; access = c.args.access.now; start = c.args.start; first = c.args.first } in
-    ready x.state x.shape x.lines x.rank x.precise laws.precise_refl laws.precise_trans x.accessed laws.access_keeps problem c.loop-node.fixing.states.items c.loop-node.fixing.waiting.items c.in-Some.node c.steps_from-own.result.now
+    ready x laws.precise_refl laws.precise_trans laws.access_keeps problem c.loop-node.fixing.states.items c.loop-node.fixing.waiting.items c.in-Some.node c.steps_from-own.result.now
     c.loop-node.invariant c.in-Some.ensures c.steps_from-own.ensures c.requires.steps.targets c.requires.count c.requires.lines
 
 pub loop-node-preserved : goal.loop-node-preserved
@@ -29,6 +29,6 @@ returns g c =
     let x = g.L.Lattice in
     let laws = g.met.L.Lattice in
     let problem : Problem g.row.L.Denot = record { nodes = c.args.nodes; steps = c.args.steps.now; access = c.args.access.now; start = c.args.start; first = c.args.first } in
-    fixing_ends x.state x.shape x.lines x.rank x.precise laws.precise_refl laws.precise_trans x.accessed laws.access_keeps problem c.loop-node.fixing.states.items c.loop-node.fixing.waiting.items c.loop-node.invariant
+    fixing_ends x laws.precise_refl laws.precise_trans laws.access_keeps problem c.loop-node.fixing.states.items c.loop-node.fixing.waiting.items c.loop-node.invariant
     c.in_default.ensures
     c.requires.reached c.requires.start c.requires.steps.sources

@@ -2,7 +2,7 @@ use Rattle.std.proofs.Common.{◌≡◌, ℕ, List, [], None, false, length, dro
 use Rattle.std.specs.List.{slice_index_or}
 use Rattle.std.proofs.lemmas.List.{at_drop_all}
 use Rattle.wc_model.specs.declared.graphs.Step.{Step}
-use Rattle.wc_fix.proofs.FixingLemmas.{leads_more}
+use Rattle.wc_fix.proofs.VisitLemmas.{leads_more}
 use Rattle.wc_fix.proofs.fixing.Fixing.bring_along.Goals as goal
 
 nowhere : Step
@@ -16,9 +16,9 @@ loop-step-preserved g c =
     let old = c.args.self.now in
     let now = c.loop-step.self in
     let new = c.bring.new.self in
-    leads_more x.state x.shape x.lines x.rank x.precise laws.precise_refl laws.precise_trans x.accessed laws.access_keeps
+    leads_more x laws.precise_refl laws.precise_trans laws.access_keeps
     c.args.after.now c.args.steps.now c.loop-step.step-index nowhere old.states.items old.waiting.items now.states.items now.waiting.items new.states.items new.waiting.items
-    c.loop-step-test.true c.requires.counted c.requires.targets c.in_ok-bring.ensures c.loop-step.invariant
+    c.loop-step-test.true c.requires.paired c.requires.targets c.in_ok-bring.ensures c.loop-step.invariant
 
 pub returns-clause-visit : goal.returns-clause-visit
 returns-clause-visit g c =

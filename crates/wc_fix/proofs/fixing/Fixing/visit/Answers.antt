@@ -1,7 +1,8 @@
 use Rattle.std.proofs.Common.{◌≡◌, ℕ, ◌∙◌, false, ap, set, sym}
 use Rattle.wc_fix.specs.Inner.Fixing.{IsVisit}
 use Rattle.wc_model.specs.Cache.Ages.{fetched}
-use Rattle.wc_fix.proofs.FixingLemmas.{read_held, waits_within, visit_begins, visit_ends}
+use Rattle.wc_fix.proofs.RaisingLemmas.{read_held, waits_within}
+use Rattle.wc_fix.proofs.VisitLemmas.{visit_begins, visit_ends}
 use Rattle.wc_fix.proofs.fixing.Fixing.visit.Goals as goal
 
 pub bring_along-requires-clause-alike : goal.bring_along-requires-clause-alike
@@ -23,5 +24,5 @@ returns-in_ok-bring_along-clause-fixing g c = λ problem at old.
     let new = c.bring_along.new.self in
     let held = read_held states node c.index.result.now c.requires.held c.in-Some.state c.index.ensures c.in-Some.is c.requires.holds in
     let is : x.state after ≡ fetched x.precise x.accessed c.args.line (x.state c.requires.held) = c.in_ok-after.ensures.state ∙ ap (λ (a : g.row.L.Denot). fetched x.precise x.accessed c.args.line (x.state a)) (sym held) in
-    let begins = visit_begins x.state x.shape x.lines x.rank x.precise laws.precise_refl laws.precise_trans x.accessed laws.access_keeps problem node own c.args.line c.requires.held after states waiting at (waits_within waiting node c.requires.waits) c.requires.holds is old in
-    visit_ends x.state x.shape x.lines x.rank x.precise laws.precise_refl laws.precise_trans x.accessed laws.access_keeps problem node after new.states.items new.waiting.items (c.in_ok-bring_along.ensures.visit problem node begins)
+    let begins = visit_begins x laws.precise_refl laws.precise_trans laws.access_keeps problem node own c.args.line c.requires.held after states waiting at (waits_within waiting node c.requires.waits) c.requires.holds is old in
+    visit_ends x laws.precise_refl laws.precise_trans laws.access_keeps problem node after new.states.items new.waiting.items (c.in_ok-bring_along.ensures.visit problem node begins)

@@ -1,0 +1,4 @@
+pub mod JoinLemmas
+pub mod MayLemmas
+pub mod MustLemmas
+pub mod SlotLemmas
