@@ -1,3 +1,4 @@
+pub mod Adapted
 pub mod Ahead
 pub mod Causes
 pub mod Leaving

@@ -2,7 +2,7 @@
 use Rattle.std.specs.Prelude.{◌≡◌, ℕ, true, false, ◌⊎◌, List, [], map, None, Some, Result, Ok, Err, string_bytes}
 use Rattle.std.specs.List.{find}
 use Rattle.wc_io.specs.Memory.{File, emptied, failing_at, fails_at, is_at, seen}
-use Rattle.wc_io.specs.Rows.{Row, row_of}
+use Rattle.wc_io.specs.Rows.{Row, path_of, row_of}
 use Rattle.wc_io.specs.declared.houses.HouseError.{HouseError}
 use Rattle.wc_io.specs.declared.houses.HouseError.TheVariants.{Failed, Memory}
 use Rattle.wc_io.specs.declared.memory.MemorySink.{MemorySink}
@@ -14,6 +14,10 @@ files_of h = map seen h.files.items
 
 abbrev pub rows_of : MemoryHouse → List Row
 rows_of h = map row_of h.opened.items
+
+-- the path of the row of a place
+abbrev pub row_path : MemoryHouse → ℕ → List ℕ
+row_path h place = path_of place (rows_of h)
 
 -- a source has its file's bytes, its portions and the calls that fail
 pub record IsSourceOf (file : File) (source : MemorySource) : Type 0 where

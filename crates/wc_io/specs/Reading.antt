@@ -1,5 +1,5 @@
 -- What reading a file answers, and what it leaves of a house.
-use Rattle.std.specs.Prelude.{◌≡◌, Bool, true, false, ℕ, List, [], ◌∷◌, ◌++◌, ◌⊎◌, Result, Ok, Err}
+use Rattle.std.specs.Prelude.{◌≡◌, Bool, true, false, ℕ, List, [], ◌∷◌, ◌++◌, ◌⊎◌, Result, Ok, Err, IsErrOf}
 use Rattle.wc_io.specs.Rows.{Row, row_failed}
 use Rattle.wc_io.specs.declared.whole.ReadWhole.{ReadWhole}
 use Rattle.wc_io.specs.declared.whole.ReadWhole.TheVariants.{Long, Failed, Memory}
@@ -14,3 +14,7 @@ AddsReadRow path (Ok _) old new = AddsSourceRow path old new
 AddsReadRow path (Err Long) old new = AddsSourceRow path old new
 AddsReadRow path (Err Failed) old new = new ≡ old ++ row_failed path false true ∷ []
 AddsReadRow path (Err (Memory _)) old new = (new ≡ old) ⊎ AddsSourceRow path old new
+
+-- more came than was asked for
+abbrev pub IsLong : {T : Type 0} → Result T ReadWhole → Type 0
+IsLong result = IsErrOf result Long

@@ -1,5 +1,6 @@
 -- Which files a house tells, and which places are out.
-use Rattle.std.specs.Prelude.{◌≡◌, ◌≢◌, ℕ, Bool, List, [], ◌∷◌, ◌++◌, Option, Some, IfSome, IsSome, IsTrue, ◌⊎◌, Result, Ok, Err}
+use Rattle.std.specs.Prelude.{◌≡◌, ◌≢◌, ℕ, Bool, List, [], ◌∷◌, ◌++◌, Option, Some, IfSome, IsSome, IsTrue, ◌⊎◌, Result, Ok, Err, IfOk}
+use Rattle.wc_io.specs.Rows.{Row, path_of}
 
 -- the house tells all its files, or it tells this one
 abbrev pub TellsFile : Bool → Option (List ℕ) → Type 0
@@ -17,6 +18,14 @@ Gives told left = IfSome told (λ bytes. left ≡ Some bytes)
 abbrev pub IsEmptied : Bool → Option (List ℕ) → Option (List ℕ) → Type 0
 IsEmptied tells told now = TellsFile tells told → now ≡ Some []
 
+-- a new sink of such a file holds nothing
+abbrev pub OpensEmpty : {T E : Type 0} → (T → Option (List ℕ)) → Result T E → Bool → Option (List ℕ) → Type 0
+OpensEmpty held result tells told = IfOk result (λ s. IsEmptied tells told (held s))
+
+-- the file of a path is emptied
+abbrev pub Empties : Bool → List ℕ → (List ℕ → Option (List ℕ)) → (List ℕ → Option (List ℕ)) → Type 0
+Empties tells path old new = IsEmptied tells (old path) (new path)
+
 -- a told file is what its sink holds, where that is told
 abbrev pub IsFilled : Option (List ℕ) → Option (List ℕ) → Option (List ℕ) → Type 0
 IsFilled told held now = IfSome told (λ _. Gives held now)
@@ -24,6 +33,10 @@ IsFilled told held now = IfSome told (λ _. Gives held now)
 -- no file has changed but that of the path
 abbrev pub KeepsOthers : List ℕ → (List ℕ → Option (List ℕ)) → (List ℕ → Option (List ℕ)) → Type 0
 KeepsOthers path old new = (p : List ℕ) → p ≢ path → new p ≡ old p
+
+-- no file has changed but that of the row of a place
+abbrev pub KeepsOthersAt : ℕ → List Row → (List ℕ → Option (List ℕ)) → (List ℕ → Option (List ℕ)) → Type 0
+KeepsOthersAt place rows old new = KeepsOthers (path_of place rows) old new
 
 -- The places of the sources and sinks that are out, as a fact on lists of them: it holds of the list that it is, in any house that
 -- knows it. A new place comes to the front.

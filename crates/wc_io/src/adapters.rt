@@ -1,5 +1,5 @@
 ghost use Rattle.std.specs.Prelude.{◌≡◌, ◌<◌, ◌≤◌, [], map, length, None, false, IfOk};
-ghost use Rattle.std.specs.Io.KnownBytes.{ReadConsumes, WriteAppends};
+ghost use Rattle.wc_io.specs.Adapted.{ReadsOf, WritesOf};
 ghost use Rattle.wc_io.specs.Causes.{Counts, HasCause, IsWithin};
 ghost use Rattle.wc_io.specs.Rows.{row_of};
 
@@ -42,7 +42,7 @@ impl<F: Read> Source for FileSource<F> {
 
     fn read(&mut self, buffer: &mut [u8]) -> Result<usize, Failed>
         ensures bound { IfOk result (λ n. n ≤ length buffer.new) }
-        ensures bytes { ReadConsumes (F.remaining self.old.reader) (F.remaining self.new.reader) result buffer.new }
+        ensures bytes { ReadsOf F.remaining self.old.reader self.new.reader result buffer.new }
         ensures cause { HasCause self.old.faults self.new.faults result }
         ensures place { self.new.place ≡ self.old.place }
         ensures counts { Counts self.old.faults self.new.faults result }
@@ -90,7 +90,7 @@ impl<F: Write> Sink for FileSink<F> {
     fn write(&mut self, piece: &[u8]) -> Result<usize, Failed>
         requires { 0 < length piece.now }
         ensures bound { IfOk result (IsWithin (length piece.now)) }
-        ensures bytes { WriteAppends (F.contents self.old.writer) (F.contents self.new.writer) result piece.now }
+        ensures bytes { WritesOf F.contents self.old.writer self.new.writer result piece.now }
         ensures cause { HasCause self.old.faults self.new.faults result }
         ensures place { self.new.place ≡ self.old.place }
         ensures counts { Counts self.old.faults self.new.faults result }

@@ -1,6 +1,6 @@
-ghost use Rattle.std.specs.Prelude.{◌≡◌, ◌<◌, ◌≤◌, length, IfOk, OnOk, IfSome, IsErrOf};
+ghost use Rattle.std.specs.Prelude.{◌≡◌, ◌<◌, ◌≤◌, length, IfOk, OnOk, IfSome};
 ghost use Rattle.wc_io.specs.Leaving.{Leaves, NoPath};
-ghost use Rattle.wc_io.specs.Reading.{AddsReadRow};
+ghost use Rattle.wc_io.specs.Reading.{AddsReadRow, IsLong};
 ghost use Rattle.wc_io.specs.Telling.{IsThere};
 
 use crate::{House, HouseError, ReadWhole, read_whole};
@@ -18,8 +18,8 @@ pub fn read_file<H: House>(
     ensures bytes { IfOk result (λ v. IfSome (H.file house.old path.now) (λ all. v.items ≡ all)) }
     ensures short { IfOk result (λ v. length v.items ≤ most) }
     ensures there { OnOk result (IsThere (H.tells house.old) (H.file house.old path.now)) }
-    ensures long { IsErrOf result ReadWhole.Long → IfSome (H.file house.old path.now) (λ all. most < length all) }
-    ensures long_there { IsErrOf result ReadWhole.Long → IsThere (H.tells house.old) (H.file house.old path.now) }
+    ensures long { IsLong result → IfSome (H.file house.old path.now) (λ all. most < length all) }
+    ensures long_there { IsLong result → IsThere (H.tells house.old) (H.file house.old path.now) }
     ensures house { Leaves H.House (AddsReadRow path.now result) NoPath house.old house.new }
 {
     let mut source = match house.source(path) {

@@ -1,6 +1,6 @@
 ghost use Rattle.std.specs.Prelude.{◌≡◌, ℕ, Bool, List, [], Option, length, IfOk, OnOk, OnErr, IfSome, true, false};
-ghost use Rattle.wc_io.specs.Rows.{Row, AddsRow, IsRowOf, MarksRow, path_of};
-ghost use Rattle.wc_io.specs.Telling.{IsThere, Gives, IsEmptied, IsFilled, KeepsOthers, Brings, ComesBack};
+ghost use Rattle.wc_io.specs.Rows.{Row, AddsRow, IsRowOf, MarksRowOf, path_of};
+ghost use Rattle.wc_io.specs.Telling.{IsThere, Gives, IsFilled, OpensEmpty, Empties, KeepsOthers, KeepsOthersAt, Brings, ComesBack};
 
 use crate::{Sink, Source};
 use std::alloc::AllocError;
@@ -51,8 +51,8 @@ pub trait House {
         ensures place { IfOk result (λ s. Self.Sink.place s ≡ length (opened self.new)) }
         ensures fresh { IfOk result (λ s. Self.Sink.faults s ≡ 0) }
         ensures empty { IfOk result (λ s. IfSome (Self.Sink.held s) (λ bytes. bytes ≡ [])) }
-        ensures held { IfOk result (λ s. IsEmptied (tells self.old) (file self.old path.now) (Self.Sink.held s)) }
-        ensures emptied { OnOk result (IsEmptied (tells self.old) (file self.old path.now) (file self.new path.now)) }
+        ensures held { OpensEmpty Self.Sink.held result (tells self.old) (file self.old path.now) }
+        ensures emptied { OnOk result (Empties (tells self.old) path.now (file self.old) (file self.new)) }
         ensures kept { OnErr result ((p : List ℕ) → file self.new p ≡ file self.old p) }
         ensures others { KeepsOthers path.now (file self.old) (file self.new) }
         ensures tells { tells self.new ≡ tells self.old }
@@ -61,7 +61,7 @@ pub trait House {
     /// Takes a source back. Its row is failed from then on where the source counted a fault.
     fn return_source(&mut self, source: Self::Source)
         requires { IsRowOf (Self.Source.place source) false (opened self.old) }
-        ensures rows { MarksRow (Self.Source.place source) (Self.Source.faults source) (opened self.old) (opened self.new) }
+        ensures rows { MarksRowOf Self.Source.place Self.Source.faults source (opened self.old) (opened self.new) }
         ensures files { (p : List ℕ) → file self.new p ≡ file self.old p }
         ensures tells { tells self.new ≡ tells self.old }
         ensures out { ComesBack (Self.Source.place source) (are_out self.old) (are_out self.new) };
@@ -70,10 +70,10 @@ pub trait House {
     /// sink counted a fault.
     fn return_sink(&mut self, sink: Self::Sink)
         requires { IsRowOf (Self.Sink.place sink) true (opened self.old) }
-        ensures rows { MarksRow (Self.Sink.place sink) (Self.Sink.faults sink) (opened self.old) (opened self.new) }
+        ensures rows { MarksRowOf Self.Sink.place Self.Sink.faults sink (opened self.old) (opened self.new) }
         ensures file { IsFilled (file self.old (path_of (Self.Sink.place sink) (opened self.old)))
             (Self.Sink.held sink) (file self.new (path_of (Self.Sink.place sink) (opened self.old))) }
-        ensures others { KeepsOthers (path_of (Self.Sink.place sink) (opened self.old)) (file self.old) (file self.new) }
+        ensures others { KeepsOthersAt (Self.Sink.place sink) (opened self.old) (file self.old) (file self.new) }
         ensures tells { tells self.new ≡ tells self.old }
         ensures out { ComesBack (Self.Sink.place sink) (are_out self.old) (are_out self.new) };
 }

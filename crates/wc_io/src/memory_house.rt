@@ -37,7 +37,7 @@ fn source_of(file: &MemoryFile, place: u64) -> Result<MemorySource, AllocError>
 }
 
 impl House for MemoryHouse {
-    ghost use Rattle.wc_io.specs.MemoryHouses.{files_of, rows_of, OpensSource, OpensSink};
+    ghost use Rattle.wc_io.specs.MemoryHouses.{files_of, row_path, rows_of, OpensSource, OpensSink};
 
     type Source = MemorySource;
 
@@ -120,7 +120,7 @@ impl House for MemoryHouse {
     fn return_sink(&mut self, sink: MemorySink)
         requires { IsRowOf sink.place true (rows_of self.old) }
         ensures rows { MarksRow sink.place sink.faults (rows_of self.old) (rows_of self.new) }
-        ensures filled { files_of self.new ≡ filled (path_of sink.place (rows_of self.old)) sink.held.items (files_of self.old) }
+        ensures filled { files_of self.new ≡ filled (row_path self.old sink.place) sink.held.items (files_of self.old) }
         ensures file { IsFilled (file_at (files_of self.old) (path_of sink.place (rows_of self.old)))
             (Some sink.held.items) (file_at (files_of self.new) (path_of sink.place (rows_of self.old))) }
         ensures others { KeepsOthers (path_of sink.place (rows_of self.old))

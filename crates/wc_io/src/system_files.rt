@@ -1,4 +1,4 @@
-ghost use Rattle.std.specs.Io.KnownBytes.{ReadConsumes, WriteAppends};
+ghost use Rattle.wc_io.specs.Adapted.{ReadsOf, WritesOf};
 ghost use Rattle.std.specs.Io.{ReadsAtMost, WritesAtMost};
 
 use std::io::{Read, Result, Write};
@@ -12,7 +12,7 @@ pub struct SystemFile<F: Read + Write> {
 impl<F: Read + Write> Read for SystemFile<F> {
     fn read(&mut self, buffer: &mut [u8]) -> Result<usize>
         ensures bound { ReadsAtMost result buffer.new }
-        ensures bytes { ReadConsumes (F.remaining self.old.file) (F.remaining self.new.file) result buffer.new }
+        ensures bytes { ReadsOf F.remaining self.old.file self.new.file result buffer.new }
     {
         self.file.read(buffer)
     }
@@ -21,7 +21,7 @@ impl<F: Read + Write> Read for SystemFile<F> {
 impl<F: Read + Write> Write for SystemFile<F> {
     fn write(&mut self, piece: &[u8]) -> Result<usize>
         ensures bound { WritesAtMost result piece.now }
-        ensures bytes { WriteAppends (F.contents self.old.file) (F.contents self.new.file) result piece.now }
+        ensures bytes { WritesOf F.contents self.old.file self.new.file result piece.now }
     {
         self.file.write(piece)
     }

@@ -1,14 +1,10 @@
 -- The rows and columns of a system's tableau, by which its size is limited. Steps that lead through nodes with one
 -- step in and one step out have the same count, so they share a column.
-use Rattle.std.specs.Prelude.{ℕ, zero, suc, ◌+◌, ◌*◌, ◌^◌, ◌<◌, ◌≤◌, Bool, true, not, ◌&&◌, ◌||◌, ◌==◌, nat_lt, nat_le, if◌then◌else◌, List, [], ◌∷◌, map, length, slice_get, Option, None, Some, option_map}
+use Rattle.std.specs.Prelude.{ℕ, zero, suc, ◌+◌, ◌*◌, Bool, true, not, ◌&&◌, ◌||◌, ◌==◌, nat_lt, nat_le, if◌then◌else◌, List, [], ◌∷◌, map, length, slice_get, Option, None, Some, option_map}
 use Rattle.std.specs.List.{filter, range_with_len}
 use Rattle.std.specs.Option.{option_and_then, unwrap_or}
-use Rattle.wc_base.specs.declared.faults.Fault.{Fault}
-use Rattle.wc_base.specs.declared.faults.Fault.TheVariants.{NumberLimit, SystemLimit}
 use Rattle.wc_model.specs.declared.flow_system.System.{System}
 use Rattle.wc_model.specs.declared.flow_system.SystemStep.{SystemStep}
-use Rattle.wc_model.specs.declared.graphs.Nest.{Nest}
-use Rattle.wc_model.specs.Flow.Ceiling.{ceiling_of}
 use Rattle.wc_model.specs.Flow.Places.{places_of}
 use Rattle.wc_model.specs.Flow.Systems.{leads_to}
 
@@ -90,12 +86,3 @@ slack_count s = length s.loops + length s.limits
 -- with an artificial column per row, the right side and the own coefficient, and with the two rows of the goals
 abbrev pub cells_of : System → ℕ
 cells_of s = (row_count s + 2) * (length (columns_of s) + slack_count s + row_count s + 2)
-
--- why a system isn't handed on: by the ceiling, or else, where limits are stated, by the cells
-pub data IsSystemFault (nest : Nest) (s : System) : Fault → Type 0 where
-  number : 2 ^ 100 ≤ ceiling_of nest s → IsSystemFault nest s NumberLimit
-  size : ceiling_of nest s < 2 ^ 100 → 0 < length s.limits → 250000 < cells_of s → IsSystemFault nest s SystemLimit
-
-pub record IsSmall (nest : Nest) (s : System) : Type 0 where
-  pub number : ceiling_of nest s < 2 ^ 100
-  pub size : 0 < length s.limits → cells_of s ≤ 250000

@@ -1,6 +1,7 @@
 -- The greatest of some costs, of which each may be missing.
-use Rattle.std.specs.Prelude.{ℕ, ◌≡◌, ◌+◌, ◌≤◌, max, List, Option, None, Some, option_map, Contains, slice_index_or}
+use Rattle.std.specs.Prelude.{ℕ, ◌≡◌, ◌+◌, ◌≤◌, max, List, Option, None, Some, IfSome, All, option_map, Contains, slice_get, slice_index_or}
 use Rattle.wc_model.specs.declared.flow_system.SystemStep.{SystemStep}
+use Rattle.wc_model.specs.Flow.Walks.{IsBest}
 
 -- the cost of a step and of the best that is ahead of it
 abbrev pub cost_ahead : List (Option ℕ) → Option ℕ → Option ℕ
@@ -19,3 +20,11 @@ option_max (Some a) (Some b) = Some (max a b)
 abbrev pub IsGreatestOf : {X : Type 0} → (X → Option ℕ) → List X → Option ℕ → Type 0
 IsGreatestOf {X} f xs None = (x : X) → Contains xs x → f x ≡ None
 IsGreatestOf {X} f xs (Some b) = ((x : X) × Contains xs x × (f x ≡ Some b)) × ((x : X) (c : ℕ) → Contains xs x → f x ≡ Some c → c ≤ b)
+
+-- the costs that there are, are at most so much
+abbrev pub AreAtMost : ℕ → List (Option ℕ) → Type 0
+AreAtMost m best = All (λ b. IfSome b (λ n. n ≤ m)) best
+
+-- the table has the greatest cost of a walk from a node to the end
+abbrev pub HasBest : List SystemStep → List (Option ℕ) → ℕ → Type 0
+HasBest steps best p = (b : Option ℕ) × (slice_get best p ≡ Some b) × IsBest steps p b

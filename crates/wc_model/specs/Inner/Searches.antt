@@ -1,10 +1,10 @@
 -- What a depth-first search knows while it runs.
-use Rattle.std.specs.Prelude.{ℕ, ◌≡◌, ◌+◌, ◌-◌, ◌<◌, ◌≤◌, ◌⊎◌, List, Option, None, Some, Contains, slice_get, slice_index, length, sum_by}
+use Rattle.std.specs.Prelude.{ℕ, ◌≡◌, ◌+◌, ◌-◌, ◌<◌, ◌≤◌, ◌⊎◌, List, Option, None, Some, Contains, slice_get, slice_index, slice_set, length, sum_by, MatchOption}
 use Rattle.wc_model.specs.declared.walks.search.Mark.{Mark}
 use Rattle.wc_model.specs.declared.walks.search.Mark.TheVariants.{New, Open, Done}
 use Rattle.wc_model.specs.declared.walks.search.Search.{Search}
 use Rattle.wc_model.specs.Flow.Ends.{Ends}
-use Rattle.wc_model.specs.Flow.Walks.{Joins, IsOrdered}
+use Rattle.wc_model.specs.Flow.Walks.{Joins, IsCycle, IsOrdered}
 use Rattle.wc_model.specs.Program.Reaching.{Reaches}
 
 -- the rounds that may be left: two for a new node, one for an open one, and one for each step that isn't followed
@@ -16,7 +16,15 @@ weight Done = 0
 abbrev pub rounds_left : {S : Type 0} → List S → Search → ℕ
 rounds_left steps search = sum_by weight search.marks.items + sum_by (λ place. length steps - place) search.next.items
 
+-- the places after one more step of a node is followed
+abbrev pub followed : List ℕ → ℕ → List ℕ
+followed next node = slice_set next node (slice_index next node + 1)
+
 module _ {S : Type 0} (ends : S → Ends) where
+  -- each step in this range of places leaves an earlier node
+  abbrev pub LeaveBefore : List S → ℕ → ℕ → ℕ → Type 0
+  LeaveBefore steps node from to = (i : ℕ) (s : S) → from ≤ i → i < to → slice_get steps i ≡ Some s → (ends s).source < node
+
   -- the open nodes are those on the path from the start, and each step that was followed leads to a node that is done
   pub record IsSearchOf (steps : List S) (start : ℕ) (marks : List Mark) (next path done : List ℕ) : Type 0 where
     pub sized : length marks ≤ length next
@@ -44,3 +52,7 @@ module _ {S : Type 0} (ends : S → Ends) where
   -- a round keeps what the search knows, and fewer are left
   abbrev pub IsRound : List S → Search → Search → Type 0
   IsRound steps old new = IsSearch steps new × (rounds_left steps new < rounds_left steps old)
+
+  -- a round answers nothing, or a node that reaches itself
+  abbrev pub RoundGives : List S → Search → Search → Option ℕ → Type 0
+  RoundGives steps old new cycle = MatchOption cycle (IsRound steps old new) (IsCycle (Joins ends steps) old.start)

@@ -25,7 +25,7 @@ requires_of kinds kind = option_map_or (λ d. d.requires_) (describe_of kinds ki
 abbrev pub reads_of : List Describe → ℕ → List Part
 reads_of kinds kind = option_map_or (λ d. d.reads) (describe_of kinds kind) []
 
--- The parts that a kind reads, or that those kinds read which it requires through at most `links` others.
+-- The parts that a kind reads, or that those kinds read to which at most `links` requirements lead from it.
 abbrev pub reads_within : List Describe → ℕ → ℕ → List Part
 reads_within kinds zero kind = reads_of kinds kind
 reads_within kinds (suc links) kind =

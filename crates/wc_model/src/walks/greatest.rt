@@ -1,7 +1,7 @@
-ghost use Rattle.std.specs.Prelude.{◌≡◌, ℕ, ◌+◌, ◌<◌, ◌≤◌, ◌^◌, List, Option, Some, IfSome, length, replicate, Contains, IfOk, All, slice_get};
-ghost use Rattle.wc_model.specs.Inner.Greatest.{IsGreatestOf, cost_through, option_max};
+ghost use Rattle.std.specs.Prelude.{◌≡◌, ℕ, ◌+◌, ◌<◌, ◌^◌, Option, IfSome, length, replicate, Contains, IfOk, All};
+ghost use Rattle.wc_model.specs.Inner.Greatest.{AreAtMost, HasBest, IsGreatestOf, cost_through, option_max};
 ghost use Rattle.wc_model.specs.Flow.Ends.{system_ends};
-ghost use Rattle.wc_model.specs.Flow.Walks.{AreSteps, Joins, IsOrdered, IsBest};
+ghost use Rattle.wc_model.specs.Flow.Walks.{AreSteps, Joins, IsOrdered};
 
 use crate::SystemStep;
 use crate::walks::{starts, steps_from};
@@ -18,7 +18,7 @@ pub fn greatest_costs(
     requires inside { All (λ p. p < nodes) order.now }
     requires ordered { IsOrdered (Joins system_ends steps.now) order.now }
     ensures count { IfOk result (λ v. length v.items ≡ nodes) }
-    ensures best { IfOk result (λ v. (p : ℕ) → Contains order.now p → (best : Option ℕ) × (slice_get v.items p ≡ Some best) × IsBest steps.now p best) }
+    ensures best { IfOk result (λ v. (p : ℕ) → Contains order.now p → HasBest steps.now v.items p) }
 {
     let starts = starts(alloc, nodes, steps)?;
     let mut best = no_costs(alloc, nodes)?;
@@ -44,7 +44,7 @@ fn greatest_through(steps: &[SystemStep], best: &[Option<u128>]) -> Option<u128>
     requires targets { All (λ s. IfSome s.target (λ q. q < length best.now)) steps.now }
     requires fits { All (λ b. IfSome b (λ n. n < 2 ^ 127)) best.now }
     ensures greatest { IsGreatestOf (cost_through best.now) steps.now result }
-    ensures small { (m : ℕ) → All (λ b. IfSome b (λ n. n ≤ m)) best.now → IfSome result (λ n. n < m + 2 ^ 64) }
+    ensures small { (m : ℕ) → AreAtMost m best.now → IfSome result (λ n. n < m + 2 ^ 64) }
 {
     let mut greatest = None;
     for step in steps {
@@ -68,7 +68,7 @@ fn through(step: &SystemStep, best: &[Option<u128>]) -> Option<u128>
     requires target { IfSome step.now.target (λ q. q < length best.now) }
     requires fits { All (λ b. IfSome b (λ n. n < 2 ^ 127)) best.now }
     ensures cost { result ≡ cost_through best.now step.now }
-    ensures small { (m : ℕ) → All (λ b. IfSome b (λ n. n ≤ m)) best.now → IfSome result (λ n. n < m + 2 ^ 64) }
+    ensures small { (m : ℕ) → AreAtMost m best.now → IfSome result (λ n. n < m + 2 ^ 64) }
 {
     let ahead = match step.target {
         None => 0,

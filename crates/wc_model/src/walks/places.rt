@@ -1,4 +1,5 @@
 ghost use Rattle.std.specs.Prelude.{◌≡◌, ◌+◌, ℕ, ◌<◌, ◌≤◌, length, slice_get, IfOk, Some};
+ghost use Rattle.wc_model.specs.Inner.Searches.{LeaveBefore};
 ghost use Rattle.wc_model.specs.Flow.Walks.{AreSteps, AreStarts, AreStepsOf};
 
 use crate::walks::Arrow;
@@ -36,7 +37,7 @@ fn first_from<S: Arrow>(steps: &[S], node: u32, from: usize) -> usize
     requires { from ≤ length steps.now }
     ensures least { from ≤ result }
     ensures inside { result ≤ length steps.now }
-    ensures below { (i : ℕ) (s : S) → from ≤ i → i < result → slice_get steps.now i ≡ Some s → (S.ends s).source < node }
+    ensures below { LeaveBefore S.ends steps.now node from result }
     ensures ends { (s : S) → slice_get steps.now result ≡ Some s → node ≤ (S.ends s).source }
 {
     let mut place = from;

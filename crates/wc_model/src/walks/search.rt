@@ -1,6 +1,6 @@
-ghost use Rattle.std.specs.Prelude.{◌≡◌, ◌+◌, ◌-◌, ◌<◌, ◌^◌, ◌++◌, ◌∷◌, [], IfOk, Some, slice_get, slice_index, slice_set, length, replicate, IsSome, MatchOption};
-ghost use Rattle.wc_model.specs.Inner.Searches.{IsSearch, IsNextStep, IsRound};
-ghost use Rattle.wc_model.specs.Flow.Walks.{AreSteps, Joins, IsCycle, IsSearched};
+ghost use Rattle.std.specs.Prelude.{◌≡◌, ◌+◌, ◌-◌, ◌<◌, ◌^◌, ◌++◌, ◌∷◌, [], IfOk, Some, slice_get, slice_index, slice_set, length, replicate, IsSome};
+ghost use Rattle.wc_model.specs.Inner.Searches.{IsSearch, IsNextStep, RoundGives, followed};
+ghost use Rattle.wc_model.specs.Flow.Walks.{AreSteps, Joins, IsSearched};
 
 use crate::walks::{Arrow, starts};
 use std::alloc::{AllocError, Global};
@@ -86,7 +86,7 @@ impl Search {
         requires fits { slice_index self.old.next.items node + 1 < 2 ^ 64 }
         ensures start { self.new.start ≡ self.old.start }
         ensures marks { self.new.marks.items ≡ self.old.marks.items }
-        ensures next { self.new.next.items ≡ slice_set self.old.next.items node (slice_index self.old.next.items node + 1) }
+        ensures next { self.new.next.items ≡ followed self.old.next.items node }
         ensures path { self.new.path.items ≡ self.old.path.items }
         ensures done { self.new.done.items ≡ self.old.done.items }
     {
@@ -112,7 +112,7 @@ impl Search {
         requires last { slice_get self.old.path.items (length self.old.path.items - 1) ≡ Some node }
         ensures count { length self.new.marks.items ≡ length self.old.marks.items }
         ensures start { self.new.start ≡ self.old.start }
-        ensures round { IfOk result (λ cycle. MatchOption cycle (IsRound S.ends steps.now self.old self.new) (IsCycle (Joins S.ends steps.now) self.old.start)) }
+        ensures round { IfOk result (RoundGives S.ends steps.now self.old self.new) }
     {
         match self.next_step(steps, node) {
             None => self.leave(node)?,
