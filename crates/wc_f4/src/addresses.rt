@@ -80,7 +80,8 @@ fn next_address(
     reader: &mut Reader,
     names: &mut Lookup,
 ) -> Result<bool, Stop>
-    ensures read { (owner : _) → Reads (address (listed owner addresses.old.items)) (after_one owner addresses.new.items) result
+    ensures read { (owner : _) → Reads (address (listed owner addresses.old.items))
+        (after_one owner addresses.new.items) result
         (ahead names.old reader.old) (ahead names.new reader.new) }
     ensures shorter { Shortens result (left reader.old) (left reader.new) }
 {
@@ -91,7 +92,8 @@ fn next_address(
 
 /// Reads addresses with `,` between them.
 pub fn addresses(alloc: Global, reader: &mut Reader, names: &mut Lookup) -> Result<Targets, Stop>
-    ensures read { (owner : _) → Reads (address (listed owner [])) (whole owner) result (ahead names.old reader.old) (ahead names.new reader.new) }
+    ensures read { (owner : _) → Reads (address (listed owner [])) (whole owner) result
+        (ahead names.old reader.old) (ahead names.new reader.new) }
     ensures shorter { Shortens result (left reader.old) (left reader.new) }
 {
     let mut addresses = Vec::new(alloc);
@@ -101,7 +103,8 @@ pub fn addresses(alloc: Global, reader: &mut Reader, names: &mut Lookup) -> Resu
 
 /// Reads the calls of a call string, if there is one.
 pub fn within(alloc: Global, reader: &mut Reader, names: &mut Lookup) -> Result<Targets, Stop>
-    ensures read { (owner : _) → Reads (behind (within owner)) (whole owner) result (ahead names.old reader.old) (ahead names.new reader.new) }
+    ensures read { (owner : _) → Reads (behind (within owner)) (whole owner) result
+        (ahead names.old reader.old) (ahead names.new reader.new) }
     ensures shorter { IfOk result (λ _. length (left reader.new) ≤ length (left reader.old)) }
 {
     if reader.has_keyword(Word::In) {

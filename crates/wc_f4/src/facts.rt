@@ -32,7 +32,8 @@ fn closed(reader: &mut Reader, fact: Fact) -> Result<Fact, Stop>
 
 /// Reads the bound of a loop.
 fn bound(reader: &mut Reader) -> Result<Option<u32>, Stop>
-    ensures read { (at : _) → Alone (Reads (behind (bound at)) (λ n. behind (within (bounded at n))) result) reader.old reader.new }
+    ensures read { (at : _) → Alone (Reads (behind (bound at)) (λ n. behind (within (bounded at n)))
+        result) reader.old reader.new }
     ensures shorter { Shortens result (left reader.old) (left reader.new) }
 {
     if reader.has_mark(Mark::Question) {
@@ -42,7 +43,8 @@ fn bound(reader: &mut Reader) -> Result<Option<u32>, Stop>
 }
 
 fn loop_fact(alloc: Global, reader: &mut Reader, names: &mut Lookup) -> Result<Fact, Stop>
-    ensures read { ReadsFact (address looped) result (ahead names.old reader.old) (ahead names.new reader.new) }
+    ensures read { ReadsFact (address looped) result
+        (ahead names.old reader.old) (ahead names.new reader.new) }
     ensures shorter { Shortens result (left reader.old) (left reader.new) }
 {
     let at = address(reader, names)?;
@@ -58,7 +60,8 @@ fn branching(
     names: &mut Lookup,
     kind: Branching,
 ) -> Result<Fact, Stop>
-    ensures read { ReadsFact (address (branching kind)) result (ahead names.old reader.old) (ahead names.new reader.new) }
+    ensures read { ReadsFact (address (branching kind)) result
+        (ahead names.old reader.old) (ahead names.new reader.new) }
     ensures shorter { Shortens result (left reader.old) (left reader.new) }
 {
     let at = address(reader, names)?;
@@ -68,7 +71,8 @@ fn branching(
 }
 
 fn noreturn_fact(reader: &mut Reader, names: &mut Lookup) -> Result<Fact, Stop>
-    ensures read { ReadsFact (address noreturn) result (ahead names.old reader.old) (ahead names.new reader.new) }
+    ensures read { ReadsFact (address noreturn) result
+        (ahead names.old reader.old) (ahead names.new reader.new) }
     ensures shorter { Shortens result (left reader.old) (left reader.new) }
 {
     let at = address(reader, names)?;
@@ -86,7 +90,8 @@ fn checksum(alloc: Global, reader: &mut Reader) -> Result<Fact, Stop>
 }
 
 fn limit(alloc: Global, reader: &mut Reader, names: &mut Lookup) -> Result<Fact, Stop>
-    ensures read { ReadsFact (term (left_sum [])) result (ahead names.old reader.old) (ahead names.new reader.new) }
+    ensures read { ReadsFact (term (left_sum [])) result
+        (ahead names.old reader.old) (ahead names.new reader.new) }
     ensures shorter { Shortens result (left reader.old) (left reader.new) }
 {
     let left = sum(alloc, reader, names)?;

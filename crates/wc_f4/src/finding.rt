@@ -36,7 +36,8 @@ impl<'a> Lookup<'a> {
 
     /// Takes the order of names out, or makes it.
     fn take_order(&mut self) -> Result<Vec<Name>, AllocError>
-        ensures order { IfOk result (λ v. IsNameOrder self.old.image.now.bytes self.old.image.now.names v.items) }
+        ensures order { IfOk result
+            (λ v. IsNameOrder self.old.image.now.bytes self.old.image.now.names v.items) }
         ensures same { self.new.image.now ≡ self.old.image.now }
     {
         match self.order.take() {

@@ -14,7 +14,8 @@ use wc_model::{Fact, Term};
 
 /// Appends addresses, each behind a comma.
 fn write_more_addresses<K: Sink>(sink: &mut K, addresses: &[Addr]) -> Result<(), Failed>
-    ensures text { Writes (K.held sink.old) (K.held sink.new) result (separated (codes ", ") address addresses.now) }
+    ensures text { Writes (K.held sink.old) (K.held sink.new) result
+        (separated (codes ", ") address addresses.now) }
     ensures cause { HasCause (K.faults sink.old) (K.faults sink.new) result }
     ensures place { K.place sink.new ≡ K.place sink.old }
 {
@@ -39,7 +40,8 @@ fn write_addresses<K: Sink>(sink: &mut K, addresses: &[Addr]) -> Result<(), Fail
 
 /// Appends addresses and what ends them.
 fn write_list<K: Sink>(sink: &mut K, addresses: &[Addr], end: &[u8]) -> Result<(), Failed>
-    ensures text { Writes (K.held sink.old) (K.held sink.new) result (addresses_text addresses.now ++ end.now) }
+    ensures text { Writes (K.held sink.old) (K.held sink.new) result
+        (addresses_text addresses.now ++ end.now) }
     ensures cause { HasCause (K.faults sink.old) (K.faults sink.new) result }
     ensures place { K.place sink.new ≡ K.place sink.old }
 {
@@ -74,7 +76,8 @@ fn write_times<K: Sink>(sink: &mut K, times: u32) -> Result<(), Failed>
 
 /// Appends an address in its brackets.
 fn write_visited<K: Sink>(sink: &mut K, at: Addr, within: &[Addr]) -> Result<(), Failed>
-    ensures text { Writes (K.held sink.old) (K.held sink.new) result ((codes "[" ++ address at) ++ (within_text within.now ++ codes "]")) }
+    ensures text { Writes (K.held sink.old) (K.held sink.new) result
+        ((codes "[" ++ address at) ++ (within_text within.now ++ codes "]")) }
     ensures cause { HasCause (K.faults sink.old) (K.faults sink.new) result }
     ensures place { K.place sink.new ≡ K.place sink.old }
 {
@@ -83,7 +86,8 @@ fn write_visited<K: Sink>(sink: &mut K, at: Addr, within: &[Addr]) -> Result<(),
 }
 
 fn write_visits<K: Sink>(sink: &mut K, times: u32, at: Addr, within: &[Addr]) -> Result<(), Failed>
-    ensures text { Writes (K.held sink.old) (K.held sink.new) result (term_text (Visits times at within.now)) }
+    ensures text { Writes (K.held sink.old) (K.held sink.new) result
+        (term_text (Visits times at within.now)) }
     ensures cause { HasCause (K.faults sink.old) (K.faults sink.new) result }
     ensures place { K.place sink.new ≡ K.place sink.old }
 {
@@ -113,7 +117,8 @@ fn write_next_term<K: Sink>(sink: &mut K, term: &Term) -> Result<(), Failed>
 }
 
 fn write_more_terms<K: Sink>(sink: &mut K, terms: &[Term]) -> Result<(), Failed>
-    ensures text { Writes (K.held sink.old) (K.held sink.new) result (separated (codes " + ") term_text terms.now) }
+    ensures text { Writes (K.held sink.old) (K.held sink.new) result
+        (separated (codes " + ") term_text terms.now) }
     ensures cause { HasCause (K.faults sink.old) (K.faults sink.new) result }
     ensures place { K.place sink.new ≡ K.place sink.old }
 {
@@ -138,7 +143,8 @@ fn write_sum<K: Sink>(sink: &mut K, terms: &[Term]) -> Result<(), Failed>
 
 /// Appends the head and the bound of a loop.
 fn write_bound<K: Sink>(sink: &mut K, at: Addr, bound: Option<u32>) -> Result<(), Failed>
-    ensures text { Writes (K.held sink.old) (K.held sink.new) result (codes "loop " ++ address at ++ codes " " ++ bound_text bound) }
+    ensures text { Writes (K.held sink.old) (K.held sink.new) result
+        (codes "loop " ++ address at ++ codes " " ++ bound_text bound) }
     ensures cause { HasCause (K.faults sink.old) (K.faults sink.new) result }
     ensures place { K.place sink.new ≡ K.place sink.old }
 {
@@ -187,7 +193,8 @@ fn write_branching<K: Sink>(sink: &mut K, word: &[u8], at: Addr, to: &[Addr]) ->
 }
 
 fn write_checksum<K: Sink>(sink: &mut K, name: &[u8], value: u32) -> Result<(), Failed>
-    ensures text { Writes (K.held sink.old) (K.held sink.new) result (codes "checksum \"" ++ name.now ++ codes "\" " ++ decimal value ++ codes ";") }
+    ensures text { Writes (K.held sink.old) (K.held sink.new) result
+        (codes "checksum \"" ++ name.now ++ codes "\" " ++ decimal value ++ codes ";") }
     ensures cause { HasCause (K.faults sink.old) (K.faults sink.new) result }
     ensures place { K.place sink.new ≡ K.place sink.old }
 {
@@ -225,7 +232,8 @@ fn write_right<K: Sink>(sink: &mut K, terms: &[Term]) -> Result<(), Failed>
 
 /// Appends the right side of an inequality and the fact's end.
 fn write_last_side<K: Sink>(sink: &mut K, terms: &[Term]) -> Result<(), Failed>
-    ensures text { Writes (K.held sink.old) (K.held sink.new) result ((codes " <= " ++ sum_text terms.now) ++ codes ";") }
+    ensures text { Writes (K.held sink.old) (K.held sink.new) result
+        ((codes " <= " ++ sum_text terms.now) ++ codes ";") }
     ensures cause { HasCause (K.faults sink.old) (K.faults sink.new) result }
     ensures place { K.place sink.new ≡ K.place sink.old }
 {
@@ -268,7 +276,8 @@ pub fn write_fact<K: Sink>(sink: &mut K, fact: &Fact) -> Result<(), Failed>
 /// The text that `write_fact` appends. `read_one` of it gives the fact, with any image.
 pub fn print_fact(alloc: Global, fact: &Fact) -> Result<Vec<u8>, AllocError>
     ensures text { IfOk result (λ text. text.items ≡ fact_text fact.now) }
-    ensures again { IfOk result (λ text. IsStated fact.now → (names : _) (read : _) → ReadsOne names text.items read → GivesBack fact.now read) }
+    ensures again { IfOk result (λ text. IsStated fact.now → (names : _) (read : _)
+        → ReadsOne names text.items read → GivesBack fact.now read) }
 {
     let mut sink = MemorySink {
         place: 0,

@@ -47,7 +47,8 @@ fn next_fact(
     names: &mut Lookup,
 ) -> Result<(), Stop>
     requires { StandsAtEnd false (left reader.old) }
-    ensures read { Goes result (answer (known names.old) start start facts.old.items (left reader.old)) (λ _. answer (known names.new) start start facts.new.items (left reader.new)) }
+    ensures read { Goes result (answer (known names.old) start start facts.old.items (left reader.old))
+        (λ _. answer (known names.new) start start facts.new.items (left reader.new)) }
     ensures shorter { Shortens result (left reader.old) (left reader.new) }
 {
     let fact = fact(alloc, reader, names)?;
@@ -56,7 +57,8 @@ fn next_fact(
 }
 
 fn all_facts(alloc: Global, reader: &mut Reader, names: &mut Lookup) -> Result<Vec<Fact>, Stop>
-    ensures { Goes result (answer (known names.old) start start [] (left reader.old)) (λ facts. Ok facts.items) }
+    ensures { Goes result (answer (known names.old) start start [] (left reader.old))
+        (λ facts. Ok facts.items) }
 {
     let mut facts = Vec::new(alloc);
     'facts: while !reader.is_at_end() {
@@ -66,7 +68,8 @@ fn all_facts(alloc: Global, reader: &mut Reader, names: &mut Lookup) -> Result<V
 }
 
 fn one_fact(alloc: Global, reader: &mut Reader, names: &mut Lookup) -> Result<Fact, Stop>
-    ensures { Goes result (answer (known names.old) finish first [] (left reader.old)) (λ fact. Ok (fact ∷ [])) }
+    ensures { Goes result (answer (known names.old) finish first [] (left reader.old))
+        (λ fact. Ok (fact ∷ [])) }
 {
     let fact = fact(alloc, reader, names)?;
     if reader.is_at_end() {
@@ -77,7 +80,8 @@ fn one_fact(alloc: Global, reader: &mut Reader, names: &mut Lookup) -> Result<Fa
 }
 
 fn facts_of(alloc: Global, text: &[u8], image: &Image) -> Result<Vec<Fact>, Stop>
-    ensures { Goes result (answer (names_of image.now) start start [] (placed_tokens text.now)) (λ facts. Ok facts.items) }
+    ensures { Goes result (answer (names_of image.now) start start [] (placed_tokens text.now))
+        (λ facts. Ok facts.items) }
 {
     let mut reader = Reader::new(text);
     let mut names = Lookup::new(alloc, image);
@@ -85,7 +89,8 @@ fn facts_of(alloc: Global, text: &[u8], image: &Image) -> Result<Vec<Fact>, Stop
 }
 
 fn fact_of(alloc: Global, text: &[u8], image: &Image) -> Result<Fact, Stop>
-    ensures { Goes result (answer (names_of image.now) finish first [] (placed_tokens text.now)) (λ fact. Ok (fact ∷ [])) }
+    ensures { Goes result (answer (names_of image.now) finish first [] (placed_tokens text.now))
+        (λ fact. Ok (fact ∷ [])) }
 {
     let mut reader = Reader::new(text);
     let mut names = Lookup::new(alloc, image);
@@ -97,7 +102,8 @@ fn fact_of(alloc: Global, text: &[u8], image: &Image) -> Result<Fact, Stop>
 /// `BadFact`.
 pub fn read_facts(alloc: Global, text: &[u8], image: &Image) -> Result<Vec<Fact>, Trouble>
     ensures read { ReadsFacts (names_of image.now) text.now (map_value (λ facts. facts.items) result) }
-    ensures only { (facts : _) → IsWhole any (names_of image.now) (tokens_of (placed_tokens text.now)) facts → GivesBack facts (map_value (λ v. v.items) result) }
+    ensures only { (facts : _) → IsWhole any (names_of image.now) (tokens_of (placed_tokens text.now)) facts
+        → GivesBack facts (map_value (λ v. v.items) result) }
     ensures stated { IfOk result (λ facts. All IsStated facts.items) }
 {
     match facts_of(alloc, text, image) {

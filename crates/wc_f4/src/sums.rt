@@ -12,7 +12,8 @@ use wc_model::{Sum, Term};
 
 /// Reads the visits of an address in its brackets.
 fn visits(alloc: Global, reader: &mut Reader, names: &mut Lookup, times: u32) -> Result<Term, Stop>
-    ensures read { ReadsTerm (λ side. opening side times) result (ahead names.old reader.old) (ahead names.new reader.new) }
+    ensures read { ReadsTerm (λ side. opening side times) result
+        (ahead names.old reader.old) (ahead names.new reader.new) }
     ensures shorter { Shortens result (left reader.old) (left reader.new) }
 {
     reader.mark(Mark::Open)?;
@@ -24,7 +25,8 @@ fn visits(alloc: Global, reader: &mut Reader, names: &mut Lookup, times: u32) ->
 
 /// Reads what may stand behind a number in a sum.
 fn times(alloc: Global, reader: &mut Reader, names: &mut Lookup, number: u32) -> Result<Term, Stop>
-    ensures read { ReadsTerm (λ side. times side number) result (ahead names.old reader.old) (ahead names.new reader.new) }
+    ensures read { ReadsTerm (λ side. times side number) result
+        (ahead names.old reader.old) (ahead names.new reader.new) }
     ensures shorter { IfOk result (λ _. length (left reader.new) ≤ length (left reader.old)) }
 {
     if reader.has_mark(Mark::Star) {
@@ -51,7 +53,8 @@ fn next_term(
     reader: &mut Reader,
     names: &mut Lookup,
 ) -> Result<bool, Stop>
-    ensures read { (side : _) → Reads (term (with_terms side terms.old.items)) (after_one_term side terms.new.items) result
+    ensures read { (side : _) → Reads (term (with_terms side terms.old.items))
+        (after_one_term side terms.new.items) result
         (ahead names.old reader.old) (ahead names.new reader.new) }
     ensures shorter { Shortens result (left reader.old) (left reader.new) }
 {
@@ -62,7 +65,8 @@ fn next_term(
 
 /// Reads terms with `+` between them.
 pub fn sum(alloc: Global, reader: &mut Reader, names: &mut Lookup) -> Result<Sum, Stop>
-    ensures read { (side : _) → Reads (term side) (λ terms. ended (with_terms side terms)) result (ahead names.old reader.old) (ahead names.new reader.new) }
+    ensures read { (side : _) → Reads (term side) (λ terms. ended (with_terms side terms)) result
+        (ahead names.old reader.old) (ahead names.new reader.new) }
     ensures shorter { Shortens result (left reader.old) (left reader.new) }
 {
     let mut terms = Vec::new(alloc);

@@ -4,7 +4,7 @@ use Rattle.wc_f4.specs.Places as place
 use Rattle.wc_f4.specs.Places.{answer}
 use Rattle.wc_f4.specs.Tokens.{mark, number}
 use Rattle.wc_f4.specs.Views.{left}
-use Rattle.wc_f4.proofs.ParsingLemmas.{by_turn, no_bound, passed_on, this_read}
+use Rattle.wc_f4.proofs.ParsingLemmas.{by_turn, no_bound, this_read}
 use Rattle.wc_f4.proofs.facts.bound.Goals as goal
 
 pub returns-then-has_mark-clause-read : goal.returns-then-has_mark-clause-read
