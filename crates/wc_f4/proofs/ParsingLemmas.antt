@@ -10,7 +10,8 @@ use Rattle.wc_f4.specs.declared.tokens.Word.{Word}
 use Rattle.wc_f4.specs.declared.stops.Stop.{Stop}
 use Rattle.wc_f4.specs.declared.stops.Stop.TheVariants.{Bad, Unknown, Memory}
 use Rattle.wc_f4.specs.Grammar.{Names}
-use Rattle.wc_f4.specs.Places.{Answer, Goes, Place, Turn, Part, Side, Owner, answer, follow, turn, go, ends, refused, start, first, finish, address, listed, moved, bound, behind as past, after_listed, whole, after_one, after_one_term, term, after_term, ended, after_address, lands, up, down, with_term, with_terms, left, right, begin_fact, on_number, on_quoted, on_word, on_end, number_or}
+use Rattle.wc_f4.specs.Parts.{after_one, after_one_term}
+use Rattle.wc_f4.specs.Places.{Answer, Goes, Place, Turn, Part, Side, Owner, answer, follow, turn, go, ends, refused, start, first, finish, address, listed, moved, bound, behind as past, after_listed, whole, term, after_term, ended, after_address, lands, up, down, with_term, with_terms, left, right, begin_fact, on_number, on_quoted, on_word, on_end, number_or}
 use Rattle.wc_f4.specs.Taking.{Heads, StandsAtEnd, Takes, TakesAny, TakesThis}
 use Rattle.wc_f4.specs.Tokens.{Token, Placed, word, number, quoted, mark, text_end}
 use Rattle.wc_f4.proofs.SameTokens.{other_this}

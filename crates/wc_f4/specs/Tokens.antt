@@ -40,6 +40,9 @@ number_of base digits = if nat_lt (digits_value base digits) (2 ^ 32) then numbe
 abbrev pub Piece : Type 0
 Piece = Option Token × ℕ
 
+abbrev pub word_at : List ℕ → Piece
+word_at rest = (Some (word (word_of (run kind.Letter rest))), run_length kind.Letter rest)
+
 -- decimal digits, or `0x` and hexadecimal digits
 abbrev pub number_at : List ℕ → Piece
 number_at rest =
@@ -70,7 +73,7 @@ at_most_at rest = if has_at rest 1 61 then (Some (mark sign.AtMost), 2) else (So
 abbrev pub piece_from : ℕ → List ℕ → Piece
 piece_from first rest =
     if is_blank first then (None, 1) else
-    (if is_letter first then (Some (word (word_of (run kind.Letter rest))), run_length kind.Letter rest) else
+    (if is_letter first then word_at rest else
     (if is_digit first then number_at rest else
     (if first == 34 then quoted_at rest else
     (if first == 47 then comment_at rest else

@@ -1,8 +1,7 @@
 ghost use Rattle.std.specs.Prelude.{◌≡◌, ◌<◌, ◌≤◌, bytes_eq, true, length, slice_index, Some};
 ghost use Rattle.std.specs.Str.Parse.{IsNumeral};
-ghost use Rattle.wc_f4.specs.Bytes.{IsInside, is_blank, is_digit, is_letter, run, run_length as run_length_of};
-ghost use Rattle.wc_f4.specs.declared.runs.Kind.TheVariants.{Letter};
-ghost use Rattle.wc_f4.specs.Tokens.{at_most_at, comment_at, mark_of, number_at, number_of, piece_at, quoted_at, word, word_of as word_of_bytes, wrong};
+ghost use Rattle.wc_f4.specs.Bytes.{IsInside, is_blank, is_digit, is_letter};
+ghost use Rattle.wc_f4.specs.Tokens.{at_most_at, comment_at, mark_of, number_at, number_of, piece_at, quoted_at, word_at, word_of as word_of_bytes, wrong};
 ghost use Rattle.wc_f4.specs.Views.{piece_of, seen};
 
 use crate::runs::{Kind, closing_length, has_at, is_of, run_length};
@@ -168,8 +167,7 @@ fn is_blank(byte: u8) -> bool
 fn word_at(rest: &[u8]) -> Piece<'_>
     requires some { 0 < length rest.now }
     requires letter { is_letter (slice_index rest.now 0) ≡ true }
-    ensures value { piece_of
-        result ≡ (Some (word (word_of_bytes (run Letter rest.now))), run_length_of Letter rest.now) }
+    ensures value { piece_of result ≡ word_at rest.now }
     ensures inside { IsInside result.length rest.now }
 {
     let length = run_length(rest, Kind::Letter);
