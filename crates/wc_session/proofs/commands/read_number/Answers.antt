@@ -1,4 +1,4 @@
-use Rattle.std.proofs.Common.{◌≡◌, ℕ, ◌+◌, ◌-◌, ◌<◌, ◌≤◌, ◌^◌, List, Option, None, Some, MatchOption, arith}
+use Rattle.std.proofs.Common.{ℕ, ◌-◌, ◌^◌, List, Option, None, Some, MatchOption, arith}
 use Rattle.wc_base.specs.Decimals.{ReadsNumber}
 use Rattle.wc_session.specs.Commands.{IsNumber}
 use Rattle.wc_session.proofs.commands.read_number.Goals as goal
