@@ -13,9 +13,11 @@ use Rattle.wc_f4.specs.Places as place
 use Rattle.wc_f4.specs.Places.{Answer, Owner, Part, Place, Side, Turn, after_address, answer, branching_fact, follow, is_this, on_this, turn, with_term, with_terms}
 use Rattle.wc_f4.specs.declared.branchings.Branching.{Branching}
 use Rattle.wc_f4.specs.declared.branchings.Branching.TheVariants.{Jump, Call}
-use Rattle.wc_f4.specs.Tokens.{Token, Placed, tokens_of, word, number, quoted, mark, wrong, text_end}
+use Rattle.wc_f4.specs.Tokens.{Token, Placed, tokens_of, word, number, quoted, mark, text_end}
 use Rattle.wc_f4.proofs.ParsingLemmas.{back, by_turn, within}
-use Rattle.wc_f4.proofs.GrammarLemmas.{one_term, term_first, this_is}
+use Rattle.wc_f4.proofs.JoinedLemmas.{one_term, term_first}
+use Rattle.wc_f4.proofs.Refusals.{minus_refused, plus_refused, star_refused, whole_refuses}
+use Rattle.wc_f4.proofs.SameTokens.{this_is}
 
 -- where reading begins, and where a fact has ended
 abbrev pub first_of : Wanted → Place
@@ -25,31 +27,6 @@ first_of one = place.first
 abbrev pub later_of : Wanted → Place
 later_of any = place.start
 later_of one = place.finish
-
--- behind a list only its owner's end may stand
-pub whole_refuses : (owner : Owner) (addresses : List ℕ) (t : Token) → is_this (mark sign.Semicolon) t ≡ false → is_this (mark sign.Close) t ≡ false → place.at_whole owner addresses t ≡ place.refused
-whole_refuses (place.targets kind at) to t no_end no_close = ap (λ (b : Bool). cond b (place.states (branching_fact kind at to)) place.refused) no_end
-whole_refuses (place.bounded at b) within t no_end no_close = ap (λ (c : Bool). cond c (place.states (Loop at b within)) place.refused) no_end
-whole_refuses (place.counted side n at) within t no_end no_close =
-    ap (λ (b : Bool). cond b (place.go (place.after_term (with_term side (Visits n at within)))) place.refused) no_close
-
-plus_refused : (next : place.Behind) → place.at_behind next (mark sign.Plus) ≡ place.refused
-plus_refused (place.bound at) = refl
-plus_refused (place.to kind at) = refl
-plus_refused (place.within owner) = whole_refuses owner [] (mark sign.Plus) refl refl
-plus_refused (place.after_listed owner before) = whole_refuses owner before (mark sign.Plus) refl refl
-plus_refused (place.closing fact) = refl
-
-minus_refused : (next : place.Behind) → place.at_behind next (mark sign.Minus) ≡ place.refused
-minus_refused (place.bound at) = refl
-minus_refused (place.to kind at) = refl
-minus_refused (place.within owner) = whole_refuses owner [] (mark sign.Minus) refl refl
-minus_refused (place.after_listed owner before) = whole_refuses owner before (mark sign.Minus) refl refl
-minus_refused (place.closing fact) = refl
-
-star_refused : (side : Side) → place.at_after_term side (mark sign.Star) ≡ place.refused
-star_refused (place.left terms) = refl
-star_refused (place.right first terms) = refl
 
 -- a place that takes one more token than another: what the other one doesn't refuse has the same turn at both
 abbrev Like : Turn → Turn → Type 0

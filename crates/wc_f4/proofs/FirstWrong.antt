@@ -9,17 +9,18 @@ use Rattle.wc_f4.specs.declared.stops.Stop.{Stop}
 use Rattle.wc_f4.specs.declared.stops.Stop.TheVariants.{Bad, Unknown, Memory}
 use Rattle.wc_f4.specs.Grammar.{Names, IsText, Wanted, any, one, IsWhole, Begins}
 use Rattle.wc_f4.specs.Places as place
-use Rattle.wc_f4.specs.Places.{Answer, Goes, Part, Place, Turn, after_address, answer, follow, turn}
+use Rattle.wc_f4.specs.Places.{Answer, Goes, Part, Place, Turn, answer, follow, turn}
 use Rattle.wc_f4.specs.Reading.{IsUnknown, Refuses, found, names_of, trouble_of, with_name}
 use Rattle.wc_f4.specs.Stated.{IsStated}
 use Rattle.std.specs.List.{AllByRecursion}
 use Rattle.wc_f4.specs.Tokens.{Token, Placed, tokens_of, placed_tokens, word, number, quoted, mark, wrong, text_end}
-use Rattle.wc_f4.proofs.Acceptance.{first_of, later_of, whole_accepted, whole_refuses}
+use Rattle.wc_f4.proofs.Acceptance.{first_of, later_of, whole_accepted}
 use Rattle.wc_f4.proofs.Completions.{IsOutside}
 use Rattle.wc_f4.proofs.GrammarLemmas.{Bounded, IsInner}
 use Rattle.wc_f4.proofs.ParsingLemmas.{by_turn}
 use Rattle.wc_f4.proofs.Sayings.{facts_text, Said, Fits, Extends, outside_count, inner_fits, one_fact, begins_said, said_follows, said_go, said_states, turn_more, known_go, known_states, known_refused, filled, filled_is, filled_small, unknown_is, with_name_is, with_name_extends, with_name_bounded}
 use Rattle.wc_f4.proofs.StatedLemmas.{text_stated, tokens_sound}
+use Rattle.wc_f4.proofs.Refusals.{IsEndTurn, end_turns}
 use Rattle.wc_f4.proofs.TokenLemmas.{IsEnded, tokens_ended}
 
 -- The tokens read so far, at a place and with facts: what they say under the names and under more of them, and where reading goes on.
@@ -33,19 +34,11 @@ tokens_snoc front t = map-append (λ (x : Placed). x.0) front (t ∷ [])
 
 finish_stays : (t : Token) (next : Place) → place.on_end t place.refused ≡ place.go next → ⊥
 finish_stays text_end next is = absurd (cc)
-finish_stays (word _) next is = absurd (cc)
-finish_stays (number _) next is = absurd (cc)
-finish_stays (quoted _) next is = absurd (cc)
-finish_stays (mark _) next is = absurd (cc)
-finish_stays wrong next is = absurd (cc)
+finish_stays _ next is = absurd (cc)
 
 finish_states : (t : Token) (f : Fact) → place.on_end t place.refused ≡ place.states f → ⊥
 finish_states text_end f is = absurd (cc)
-finish_states (word _) f is = absurd (cc)
-finish_states (number _) f is = absurd (cc)
-finish_states (quoted _) f is = absurd (cc)
-finish_states (mark _) f is = absurd (cc)
-finish_states wrong f is = absurd (cc)
+finish_states _ f is = absurd (cc)
 
 go_none : (names : Names) (p next : Place) (facts : List Fact) (t : Token) → turn names p t ≡ place.go next → Fits one p facts → facts ≡ []
 go_none names place.start next facts t is fits = absurd fits
@@ -150,33 +143,6 @@ not_unknown wanted names bounded p facts front (number _) does reached none = no
 not_unknown wanted names bounded p facts front (mark _) does reached none = none
 not_unknown wanted names bounded p facts front wrong does reached none = none
 not_unknown wanted names bounded p facts front text_end does reached none = none
-
--- at the end of the text only the end of facts may stand
-abbrev IsEndTurn : Place → Turn → Type 0
-IsEndTurn p (place.go next) = ⊥
-IsEndTurn p (place.states f) = ⊥
-IsEndTurn p place.ends = IsOutside p
-IsEndTurn p place.refused = Unit {0}
-IsEndTurn p place.unknown = Unit {0}
-
-behind_end : (next : place.Behind) → place.at_behind next text_end ≡ place.refused
-behind_end (place.bound at) = refl
-behind_end (place.to kind at) = refl
-behind_end (place.within owner) = whole_refuses owner [] text_end refl refl
-behind_end (place.after_listed owner before) = whole_refuses owner before text_end refl refl
-behind_end (place.closing fact) = refl
-
-end_turns : (names : Names) (p : Place) → IsEndTurn p (turn names p text_end)
-end_turns names (place.moved part at) = subst (IsEndTurn (place.moved part at)) (sym (behind_end (after_address part at))) tt
-end_turns names (place.behind next) = subst (IsEndTurn (place.behind next)) (sym (behind_end next)) tt
-end_turns names (place.whole owner list) = subst (IsEndTurn (place.whole owner list)) (sym (whole_refuses owner list text_end refl refl)) tt
-end_turns names (place.times (place.left terms) n) = tt
-end_turns names (place.times (place.right first terms) n) = tt
-end_turns names (place.after_term (place.left terms)) = tt
-end_turns names (place.after_term (place.right first terms)) = tt
-end_turns names (place.ended (place.left terms)) = tt
-end_turns names (place.ended (place.right first terms)) = tt
-end_turns names _ = tt
 
 not_end : (names : Names) (p : Place) (t : Token) (u : Turn) → turn names p t ≡ u → (IsEndTurn p u → ⊥) → t ≡ text_end → ⊥
 not_end names p t u does never is = never (subst (IsEndTurn p) (ap (turn names p) (sym is) ∙ does) (end_turns names p))

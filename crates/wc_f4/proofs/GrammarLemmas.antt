@@ -2,65 +2,18 @@
 use Rattle.std.proofs.Common.{◌≡◌, ℕ, ◌+◌, ◌-◌, ◌<◌, ◌≤◌, ◌^◌, Bool, true, false, nat_lt, nat_le, cond, List, [], ◌∷◌, ◌++◌, Option, None, Some, refl, sym, ap, subst, arith, append_assoc, append-nil, inl, inr}
 use Rattle.std.proofs.lemmas.Bool.Decides.{nat_tests}
 use Rattle.wc_model.specs.declared.flow_facts.Fact.{Fact}
-use Rattle.wc_model.specs.declared.flow_facts.Fact.TheVariants.{Loop, Noreturn, Checksum, Limit}
+use Rattle.wc_model.specs.declared.flow_facts.Fact.TheVariants.{Loop, Checksum, Limit}
 use Rattle.wc_model.specs.declared.flow_facts.Term.{Term}
 use Rattle.wc_model.specs.declared.flow_facts.Term.TheVariants.{Constant, Visits}
-use Rattle.wc_f4.specs.declared.tokens.Mark.{Mark}
 use Rattle.wc_f4.specs.declared.tokens.Mark.TheVariants as sign
 use Rattle.wc_f4.specs.declared.tokens.Word.{Word}
 use Rattle.wc_f4.specs.declared.tokens.Word.TheVariants as keyword
-use Rattle.wc_f4.specs.Grammar.{Names, IsAddress, plain, named, above, below, AreAddresses, AreJoined, IsBound, IsBranching, IsFact, IsSum, IsTerm, IsWithin, bracketed}
+use Rattle.wc_f4.specs.Grammar.{Names, IsAddress, plain, named, above, below, AreAddresses, IsBound, IsBranching, IsFact, IsSum, IsTerm, IsWithin, bracketed}
 use Rattle.wc_f4.specs.Places as place
-use Rattle.wc_f4.specs.Places.{Owner, Part, Place, Side, Turn, after_address, branching_fact, turn, with_term, with_terms, is_this, on_this, on_number, on_quoted, on_word, on_end, number_or, same_mark, same_word}
-use Rattle.wc_f4.specs.declared.branchings.Branching.{Branching}
-use Rattle.wc_f4.specs.declared.branchings.Branching.TheVariants.{Jump, Call}
-use Rattle.wc_f4.specs.Tokens.{Token, word, number, quoted, mark, wrong, text_end}
-
-same_is : (m k : Mark) → same_mark m k ≡ true → m ≡ k
-same_is sign.Semicolon sign.Semicolon is = refl
-same_is sign.Comma sign.Comma is = refl
-same_is sign.Question sign.Question is = refl
-same_is sign.Plus sign.Plus is = refl
-same_is sign.Minus sign.Minus is = refl
-same_is sign.Star sign.Star is = refl
-same_is sign.Open sign.Open is = refl
-same_is sign.Close sign.Close is = refl
-same_is sign.AtMost sign.AtMost is = refl
-same_is _ _ is = absurd (cc)
-
-same_word_is : (w v : Word) → same_word w v ≡ true → w ≡ v
-same_word_is keyword.Loop keyword.Loop is = refl
-same_word_is keyword.Multibranch keyword.Multibranch is = refl
-same_word_is keyword.Multicall keyword.Multicall is = refl
-same_word_is keyword.Noreturn keyword.Noreturn is = refl
-same_word_is keyword.Checksum keyword.Checksum is = refl
-same_word_is keyword.Limit keyword.Limit is = refl
-same_word_is keyword.To keyword.To is = refl
-same_word_is keyword.In keyword.In is = refl
-same_word_is keyword.Other keyword.Other is = refl
-same_word_is _ _ is = absurd (cc)
-
-pub this_is : (u t : Token) → is_this u t ≡ true → u ≡ t
-this_is (mark m) (mark k) is = ap mark (same_is m k is)
-this_is (word w) (word v) is = ap word (same_word_is w v is)
-this_is _ _ is = absurd (cc)
-
-joined_cons : {X : Type 0} (Is : List Token → X → Type 0) (between : Token) (us ws : List Token) (x : X) (xs : List X)
-    → Is us x → AreJoined Is between ws xs → AreJoined Is between (us ++ between ∷ ws) (x ∷ xs)
-joined_cons Is between us ws x [] is are = absurd are
-joined_cons Is between us ws x (y ∷ ys) is are = (us, ws, refl, is, are)
-
-within_is : (names : Names) (ws : List Token) (more : List ℕ) → AreAddresses names ws more → IsWithin names (word keyword.In ∷ ws) more
-within_is names ws [] are = absurd are
-within_is names ws (a ∷ more) are = (ws, refl, are)
-
-pub one_term : (side : Side) (t : Term) → with_terms side (t ∷ []) ≡ with_term side t
-one_term (place.left before) t = refl
-one_term (place.right first before) t = refl
-
-pub term_first : (side : Side) (t : Term) (more : List Term) → with_terms side (t ∷ more) ≡ with_terms (with_term side t) more
-term_first (place.left before) t more = ap place.left (sym (append_assoc before (t ∷ []) more))
-term_first (place.right first before) t more = ap (place.right first) (sym (append_assoc before (t ∷ []) more))
+use Rattle.wc_f4.specs.Places.{Owner, Part, Place, Side, Turn, after_address, branching_fact, turn, with_term, with_terms, is_this, on_this, on_number, on_quoted, on_word, on_end, number_or}
+use Rattle.wc_f4.specs.Tokens.{Token, word, number, quoted, mark, text_end}
+use Rattle.wc_f4.proofs.JoinedLemmas.{joined_cons, one_term, term_first, within_is}
+use Rattle.wc_f4.proofs.SameTokens.{this_is}
 
 few : (a b : ℕ) → nat_lt a b ≡ true → a < b
 few a b is = grind (arith, nat_tests)
@@ -170,43 +123,23 @@ module _ (names : Names) where
 
   number_turn : (t : Token) (f : ℕ → Turn) (vs : List Token) → ((n : ℕ) → Follows (f n) (vs ++ number n ∷ [])) → Follows (on_number t f) (vs ++ t ∷ [])
   number_turn (number n) f vs h = h n
-  number_turn (word _) f vs h = tt
-  number_turn (quoted _) f vs h = tt
-  number_turn (mark _) f vs h = tt
-  number_turn wrong f vs h = tt
-  number_turn text_end f vs h = tt
+  number_turn _ f vs h = tt
 
   number_or_turn : (t : Token) (f : ℕ → Turn) (b : Turn) (vs : List Token) → ((n : ℕ) → Follows (f n) (vs ++ number n ∷ [])) → Follows b (vs ++ t ∷ []) → Follows (number_or t f b) (vs ++ t ∷ [])
   number_or_turn (number n) f b vs h g = h n
-  number_or_turn (word _) f b vs h g = g
-  number_or_turn (quoted _) f b vs h g = g
-  number_or_turn (mark _) f b vs h g = g
-  number_or_turn wrong f b vs h g = g
-  number_or_turn text_end f b vs h g = g
+  number_or_turn _ f b vs h g = g
 
   quoted_turn : (t : Token) (f : List ℕ → Turn) (vs : List Token) → ((s : List ℕ) → Follows (f s) (vs ++ quoted s ∷ [])) → Follows (on_quoted t f) (vs ++ t ∷ [])
   quoted_turn (quoted s) f vs h = h s
-  quoted_turn (word _) f vs h = tt
-  quoted_turn (number _) f vs h = tt
-  quoted_turn (mark _) f vs h = tt
-  quoted_turn wrong f vs h = tt
-  quoted_turn text_end f vs h = tt
+  quoted_turn _ f vs h = tt
 
   word_turn : (t : Token) (f : Word → Turn) (vs : List Token) → ((w : Word) → Follows (f w) (vs ++ word w ∷ [])) → Follows (on_word t f) (vs ++ t ∷ [])
   word_turn (word w) f vs h = h w
-  word_turn (quoted _) f vs h = tt
-  word_turn (number _) f vs h = tt
-  word_turn (mark _) f vs h = tt
-  word_turn wrong f vs h = tt
-  word_turn text_end f vs h = tt
+  word_turn _ f vs h = tt
 
   end_turn : (t : Token) (b : Turn) (vs : List Token) → vs ≡ [] → Follows b (vs ++ t ∷ []) → Follows (on_end t b) (vs ++ t ∷ [])
   end_turn text_end b vs none g = ap (λ (us : List Token). us ++ text_end ∷ []) none
-  end_turn (quoted _) b vs none g = g
-  end_turn (number _) b vs none g = g
-  end_turn (mark _) b vs none g = g
-  end_turn (word _) b vs none g = g
-  end_turn wrong b vs none g = g
+  end_turn _ b vs none g = g
 
   -- one address of a list, and those behind it
   at_listed : (owner : Owner) (before : List ℕ) (vs : List Token) → AtList owner before vs → AtAddress (place.listed owner before) vs

@@ -3,12 +3,15 @@ pub mod Completions
 pub mod FirstWrong
 pub mod GivenBack
 pub mod GrammarLemmas
+pub mod JoinedLemmas
 pub mod NameOrderLemmas
 pub mod ParsingLemmas
 pub mod PrintedFacts
 pub mod PrintedTokens
 pub mod PrintingLemmas
+pub mod Refusals
 pub mod RunLemmas
+pub mod SameTokens
 pub mod Sayings
 pub mod StatedLemmas
 pub mod TokenLemmas

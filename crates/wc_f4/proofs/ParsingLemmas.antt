@@ -1,20 +1,20 @@
 -- One token's turn, and parts of a text read one behind the other.
-use Rattle.std.proofs.Common.{◌≡◌, ℕ, ◌+◌, ◌-◌, ◌<◌, ◌≤◌, ◌^◌, Bool, true, false, nat_lt, nat_le, cond, List, [], ◌∷◌, ◌++◌, None, Some, Result, Ok, Err, IsErrAnd, subst, refl, sym, ap, ◌∙◌, arith, append_assoc, append-nil}
+use Rattle.std.proofs.Common.{◌≡◌, ℕ, ◌+◌, ◌-◌, ◌<◌, ◌≤◌, ◌^◌, Bool, true, false, nat_lt, nat_le, List, [], ◌∷◌, ◌++◌, None, Some, Result, Ok, Err, IsErrAnd, subst, refl, sym, ap, ◌∙◌, arith, append_assoc, append-nil}
 use Rattle.std.proofs.lemmas.Bool.Decides.{nat_tests}
 use Rattle.std.proofs.lemmas.Result.{err_from_is_err_and}
 use Rattle.std.specs.declared.alloc.AllocError.{AllocError}
 use Rattle.wc_model.specs.declared.flow_facts.Fact.{Fact}
 use Rattle.wc_model.specs.declared.flow_facts.Term.{Term}
-use Rattle.wc_f4.specs.declared.tokens.Mark.{Mark}
 use Rattle.wc_f4.specs.declared.tokens.Mark.TheVariants as sign
 use Rattle.wc_f4.specs.declared.tokens.Word.{Word}
-use Rattle.wc_f4.specs.declared.tokens.Word.TheVariants as keyword
 use Rattle.wc_f4.specs.declared.stops.Stop.{Stop}
 use Rattle.wc_f4.specs.declared.stops.Stop.TheVariants.{Bad, Unknown, Memory}
 use Rattle.wc_f4.specs.Grammar.{Names}
-use Rattle.wc_f4.specs.Places.{Answer, Goes, Place, Turn, Part, Side, Owner, answer, follow, turn, go, ends, refused, start, first, finish, address, listed, moved, bound, behind as past, after_listed, whole, after_one, after_one_term, term, after_term, ended, after_address, lands, up, down, with_term, with_terms, left, right, begin_fact, is_this, same_mark, same_word, on_this, on_number, on_quoted, on_word, on_end, number_or}
+use Rattle.wc_f4.specs.Parts.{after_one, after_one_term}
+use Rattle.wc_f4.specs.Places.{Answer, Goes, Place, Turn, Part, Side, Owner, answer, follow, turn, go, ends, refused, start, first, finish, address, listed, moved, bound, behind as past, after_listed, whole, term, after_term, ended, after_address, lands, up, down, with_term, with_terms, left, right, begin_fact, on_number, on_quoted, on_word, on_end, number_or}
 use Rattle.wc_f4.specs.Taking.{Heads, StandsAtEnd, Takes, TakesAny, TakesThis}
-use Rattle.wc_f4.specs.Tokens.{Token, Placed, word, number, quoted, mark, wrong, text_end}
+use Rattle.wc_f4.specs.Tokens.{Token, Placed, word, number, quoted, mark, text_end}
+use Rattle.wc_f4.proofs.SameTokens.{other_this}
 
 -- the first token's turn
 pub turns : (names : Names) (later place : Place) (facts : List Fact) (old rest : List Placed) (t : Token) (at : ℕ) → old ≡ (t, at) ∷ rest
@@ -103,77 +103,25 @@ pub any_read : {X : Type 0} (names : Names) (later place : Place) (facts : List 
 any_read names later place facts is x next old new wants (at, head) = by_turn names later place facts old new (is x) at (go next) head wants
 
 -- tokens of other kinds
-same_other : (m k : Mark) → (k ≡ m → ⊥) → same_mark m k ≡ false
-same_other sign.Semicolon sign.Semicolon other = absurd (other refl)
-same_other sign.Comma sign.Comma other = absurd (other refl)
-same_other sign.Question sign.Question other = absurd (other refl)
-same_other sign.Plus sign.Plus other = absurd (other refl)
-same_other sign.Minus sign.Minus other = absurd (other refl)
-same_other sign.Star sign.Star other = absurd (other refl)
-same_other sign.Open sign.Open other = absurd (other refl)
-same_other sign.Close sign.Close other = absurd (other refl)
-same_other sign.AtMost sign.AtMost other = absurd (other refl)
-same_other _ _ other = refl
-
-same_word_other : (w v : Word) → (v ≡ w → ⊥) → same_word w v ≡ false
-same_word_other keyword.Loop keyword.Loop other = absurd (other refl)
-same_word_other keyword.Multibranch keyword.Multibranch other = absurd (other refl)
-same_word_other keyword.Multicall keyword.Multicall other = absurd (other refl)
-same_word_other keyword.Noreturn keyword.Noreturn other = absurd (other refl)
-same_word_other keyword.Checksum keyword.Checksum other = absurd (other refl)
-same_word_other keyword.Limit keyword.Limit other = absurd (other refl)
-same_word_other keyword.To keyword.To other = absurd (other refl)
-same_word_other keyword.In keyword.In other = absurd (other refl)
-same_word_other keyword.Other keyword.Other other = absurd (other refl)
-same_word_other _ _ other = refl
-
-is_other : (u t : Token) → (t ≡ u → ⊥) → is_this u t ≡ false
-is_other (mark m) (mark k) other = same_other m k (λ is. other (ap mark is))
-is_other (word w) (word v) other = same_word_other w v (λ is. other (ap word is))
-is_other _ _ other = refl
-
-pub other_this : (u t : Token) (is other : Turn) → (t ≡ u → ⊥) → on_this u t is other ≡ other
-other_this u t is other differs = ap (λ (b : Bool). cond b is other) (is_other u t differs)
-
 pub no_number : (t : Token) (is : ℕ → Turn) → ((n : ℕ) → t ≡ number n → ⊥) → on_number t is ≡ refused
 no_number (number n) is differs = absurd (differs n refl)
-no_number (word _) is differs = refl
-no_number (mark _) is differs = refl
-no_number (quoted _) is differs = refl
-no_number wrong is differs = refl
-no_number text_end is differs = refl
+no_number _ is differs = refl
 
 pub other_number : (t : Token) (is : ℕ → Turn) (other : Turn) → ((n : ℕ) → t ≡ number n → ⊥) → number_or t is other ≡ other
 other_number (number n) is other differs = absurd (differs n refl)
-other_number (word _) is other differs = refl
-other_number (mark _) is other differs = refl
-other_number (quoted _) is other differs = refl
-other_number wrong is other differs = refl
-other_number text_end is other differs = refl
+other_number _ is other differs = refl
 
 pub no_quoted : (t : Token) (is : List ℕ → Turn) → ((s : List ℕ) → t ≡ quoted s → ⊥) → on_quoted t is ≡ refused
 no_quoted (quoted s) is differs = absurd (differs s refl)
-no_quoted (word _) is differs = refl
-no_quoted (mark _) is differs = refl
-no_quoted (number _) is differs = refl
-no_quoted wrong is differs = refl
-no_quoted text_end is differs = refl
+no_quoted _ is differs = refl
 
 pub no_word : (t : Token) (is : Word → Turn) → ((w : Word) → t ≡ word w → ⊥) → on_word t is ≡ refused
 no_word (word w) is differs = absurd (differs w refl)
-no_word (quoted _) is differs = refl
-no_word (mark _) is differs = refl
-no_word (number _) is differs = refl
-no_word wrong is differs = refl
-no_word text_end is differs = refl
+no_word _ is differs = refl
 
 pub no_end : (t : Token) (other : Turn) → (t ≡ text_end → ⊥) → on_end t other ≡ other
 no_end text_end other differs = absurd (differs refl)
-no_end (quoted _) other differs = refl
-no_end (mark _) other differs = refl
-no_end (number _) other differs = refl
-no_end (word _) other differs = refl
-no_end wrong other differs = refl
+no_end _ other differs = refl
 
 -- distances
 pub within : (part : Part) (base n : ℕ) → base + n < 2 ^ 32 → up part base n ≡ lands part (base + n)

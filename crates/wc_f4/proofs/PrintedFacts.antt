@@ -12,7 +12,7 @@ use Rattle.wc_model.specs.declared.flow_facts.Term.TheVariants.{Constant, Visits
 use Rattle.wc_f4.specs.declared.tokens.Mark.TheVariants as sign
 use Rattle.wc_f4.specs.declared.tokens.Word.{Word}
 use Rattle.wc_f4.specs.declared.tokens.Word.TheVariants as keyword
-use Rattle.wc_f4.specs.FactText.{bound_text, fact_text, branching_text, separated, term_text, times_text, within_text}
+use Rattle.wc_f4.specs.FactText.{bound_text, fact_text, branching_text, separated, term_text, within_text}
 use Rattle.wc_f4.specs.Grammar.{Names, plain, AreAddresses, IsBranching, IsFact, IsBound, IsSum, IsTerm, IsWhole, IsWithin, bracketed, one}
 use Rattle.wc_f4.specs.Stated.{IsSmall, IsStated, IsStatedTerm}
 use Rattle.wc_f4.specs.Tokens.{Token, word, number, quoted, mark, text_end}

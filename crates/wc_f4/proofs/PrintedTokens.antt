@@ -1,24 +1,22 @@
 -- The tokens of a printed fact.
-use Rattle.std.proofs.Common.{◌≡◌, ℕ, zero, suc, ◌+◌, ◌-◌, ◌*◌, ◌/◌, ◌%◌, ◌^◌, ◌<◌, Bool, true, false, ◌&&◌, ◌==◌, cond, nat_lt, List, [], ◌∷◌, ◌++◌, length, take, drop, get_or, slice_index, Option, None, Some, refl, ap, ◌∙◌, arith, add-one, length-append, ⊎_elim, decimal}
+use Rattle.std.proofs.Common.{◌≡◌, ℕ, zero, suc, ◌+◌, ◌-◌, ◌/◌, ◌%◌, ◌^◌, ◌<◌, Bool, true, false, ◌&&◌, ◌==◌, cond, nat_lt, List, [], ◌∷◌, ◌++◌, length, take, drop, get_or, slice_index, Option, None, Some, refl, ap, ◌∙◌, arith, add-one, length-append, ⊎_elim, decimal}
 use Rattle.std.proofs.Math.Seq.{drop-append_seam}
 use Rattle.std.proofs.lemmas.Bool.{eq-eqb}
 use Rattle.std.proofs.lemmas.Bool.Decides.{nat_tests}
-use Rattle.std.proofs.lemmas.Str.{digit_value_digit}
 use Rattle.std.proofs.lemmas.Str.Parse.{digit_at}
 use Rattle.std.proofs.str.Laws.{order}
-use Rattle.std.specs.Int.{IsInRange}
 use Rattle.std.proofs.lemmas.Fmt.{decimal_is_IsNumeral}
 use Rattle.std.proofs.lemmas.Grind.{common_steps}
 use Rattle.std.specs.List.{AllByRecursion}
 use Rattle.std.specs.Prelude.{codes}
-use Rattle.std.specs.Char.{digit_value as std_digit}
-use Rattle.std.specs.Str.Parse.{AllDigits, digits_value_after}
+use Rattle.std.specs.Char.{digit_value}
+use Rattle.std.specs.Str.Parse.{AllDigits, digits_value}
 use Rattle.wc_base.specs.FaultTexts.{address, hex_digit}
 use Rattle.wc_f4.specs.declared.runs.Kind.{Kind}
 use Rattle.wc_f4.specs.declared.runs.Kind.TheVariants as kind
 use Rattle.wc_f4.specs.declared.tokens.Mark.TheVariants as sign
 use Rattle.wc_f4.specs.declared.tokens.Word.TheVariants as keyword
-use Rattle.wc_f4.specs.Bytes.{IsInside, digit_value, has_at, is_blank, is_digit, is_hexadecimal, is_letter, is_of, is_quoted, run_length, value_from}
+use Rattle.wc_f4.specs.Bytes.{IsInside, has_at, is_blank, is_digit, is_hexadecimal, is_letter, is_of, is_quoted, run_length}
 use Rattle.wc_f4.specs.Tokens.{Token, Placed, number_at, number_of, piece_at, quoted_at, tokens_from, tokens_of, with_token, word, number, quoted, mark, wrong, text_end}
 use Rattle.wc_f4.proofs.RunLemmas.{number_below}
 use Rattle.wc_f4.proofs.TokenLemmas.{first_piece}
@@ -181,8 +179,8 @@ lex_quoted s rest all =
     (omega arith, omega (arith, long))
     left
 
-number_is : (base n : ℕ) (ds : List ℕ) → value_from base 0 ds ≡ n → n < 2 ^ 32 → number_of base ds ≡ number n
-number_is base n ds is small = number_below (value_from base 0 ds) (omega (arith, is)) ∙ ap number is
+number_is : (base n : ℕ) (ds : List ℕ) → digits_value base ds ≡ n → n < 2 ^ 32 → number_of base ds ≡ number n
+number_is base n ds is small = number_below (digits_value base ds) (omega (arith, is)) ∙ ap number is
 
 -- hexadecimal digits
 hex_is : (d : ℕ) → d < 16 → is_hexadecimal (hex_digit d) ≡ true
@@ -210,12 +208,12 @@ nibble : (at p : ℕ) → at / p % 16 < 16
 nibble at p = omega arith
 
 pub lex_address : (at : ℕ) (rest : List ℕ) → at < 2 ^ 32 → Breaks rest → lex (address at ++ rest) ≡ number at ∷ lex rest
-unfolding piece_at value_from
+unfolding piece_at
 lex_address at rest small ends =
     let ds : List ℕ = drop 2 (address at) in
     let stops : run_length kind.Hexadecimal rest ≡ 0 = ap (run_length kind.Hexadecimal) ends.is ∙ stop_here kind.Hexadecimal ends.byte ends.more ends.no_hexadecimal in
     let all : AllByRecursion (λ b. is_hexadecimal b ≡ true) ds = (hex_is (at / 2 ^ 28 % 16) (omega arith), (hex_is (at / 2 ^ 24 % 16) (omega arith), (hex_is (at / 2 ^ 20 % 16) (omega arith), (hex_is (at / 2 ^ 16 % 16) (omega arith), (hex_is (at / 2 ^ 12 % 16) (omega arith), (hex_is (at / 2 ^ 8 % 16) (omega arith), (hex_is (at / 2 ^ 4 % 16) (omega arith), (hex_is (at % 16) (omega arith), tt)))))))) in
-    let value : value_from 16 0 ds ≡ at = rw (hex_value (at / 2 ^ 28 % 16) (omega arith), hex_value (at / 2 ^ 24 % 16) (omega arith), hex_value (at / 2 ^ 20 % 16) (omega arith), hex_value (at / 2 ^ 16 % 16) (omega arith), hex_value (at / 2 ^ 12 % 16) (omega arith), hex_value (at / 2 ^ 8 % 16) (omega arith), hex_value (at / 2 ^ 4 % 16) (omega arith), hex_value (at % 16) (omega arith)) (omega arith) in
+    let value : digits_value 16 ds ≡ at = rw (hex_value (at / 2 ^ 28 % 16) (omega arith), hex_value (at / 2 ^ 24 % 16) (omega arith), hex_value (at / 2 ^ 20 % 16) (omega arith), hex_value (at / 2 ^ 16 % 16) (omega arith), hex_value (at / 2 ^ 12 % 16) (omega arith), hex_value (at / 2 ^ 8 % 16) (omega arith), hex_value (at / 2 ^ 4 % 16) (omega arith), hex_value (at % 16) (omega arith)) (omega arith) in
     lex_token 48 (120 ∷ (ds ++ rest)) rest (number at) 10
     (number_hex ds rest all (omega arith) stops ∙ ap (λ (t : Token). (Some t, 10)) (number_is 16 at ds value small))
     (omega arith, omega arith)
@@ -225,20 +223,6 @@ lex_address at rest small ends =
 decimal_all : (ds : List ℕ) → AllDigits 10 ds → AllByRecursion (λ b. is_digit b ≡ true) ds
 decimal_all [] all = tt
 decimal_all (d ∷ ds) all = let range = digit_at (d ∷ ds) 0 all (omega arith) in (grind (arith, nat_tests, range.0, range.1), decimal_all ds all.1)
-
-digit_same : (d : ℕ) → IsInRange 48 57 d → digit_value d ≡ std_digit d
-digit_same d range =
-    let is : is_digit d ≡ true = grind (arith, nat_tests, range.0, range.1) in
-    let value : digit_value d ≡ d - 48 = rw is refl in
-    value ∙ omega (arith, digit_value_digit d range)
-
-decimal_value : (n : ℕ) (ds : List ℕ) → AllDigits 10 ds → value_from 10 n ds ≡ digits_value_after 10 n ds
-unfolding value_from
-decimal_value n [] all = refl
-decimal_value n (d ∷ ds) all =
-    let range = digit_at (d ∷ ds) 0 all (omega arith) in
-    let same : digit_value d ≡ std_digit d = digit_same d range in
-    ap (λ (v : ℕ). value_from 10 (n * 10 + v) ds) same ∙ decimal_value (n * 10 + std_digit d) ds all.1
 
 and_false : (a c : Bool) → (a && false && c) ≡ false
 and_false true c = refl
@@ -265,13 +249,13 @@ digit_piece d bytes is =
     let no_letter : is_letter d ≡ false = grind (arith, nat_tests) in
     rw (no_blank, no_letter, is) refl
 
-decimal_lex : (ds : List ℕ) (n : ℕ) (rest : List ℕ) → 0 < length ds → AllDigits 10 ds → digits_value_after 10 0 ds ≡ n → n < 2 ^ 32 → Breaks rest → lex (ds ++ rest) ≡ number n ∷ lex rest
+decimal_lex : (ds : List ℕ) (n : ℕ) (rest : List ℕ) → 0 < length ds → AllDigits 10 ds → digits_value 10 ds ≡ n → n < 2 ^ 32 → Breaks rest → lex (ds ++ rest) ≡ number n ∷ lex rest
 decimal_lex [] n rest some all value small ends = absurd (omega arith)
 decimal_lex (d ∷ ds) n rest some all value small ends =
     let digits = decimal_all (d ∷ ds) all in
     lex_token d (ds ++ rest) rest (number n) (length (d ∷ ds))
     (digit_piece d (d ∷ (ds ++ rest)) digits.0 ∙ number_dec (d ∷ ds) rest digits some ends
-    ∙ ap (λ (t : Token). (Some t, length (d ∷ ds))) (number_is 10 n (d ∷ ds) (decimal_value 0 (d ∷ ds) all ∙ value) small))
+    ∙ ap (λ (t : Token). (Some t, length (d ∷ ds))) (number_is 10 n (d ∷ ds) value small))
     (omega arith, omega (arith, length-append ds rest))
     (drop-append_seam (d ∷ ds) rest)
 

@@ -1,10 +1,16 @@
 -- Runs of bytes, place by place.
-use Rattle.std.proofs.Common.{◌≡◌, ℕ, suc, ◌+◌, ◌-◌, ◌*◌, ◌^◌, ◌<◌, ◌≤◌, Bool, true, false, ◌&&◌, ◌==◌, nat_lt, List, [], ◌∷◌, length, get_or, slice_index, drop, Option, None, Some, refl, sym, ap, ◌∙◌, arith, drop-cons, add-one, add-zero, length-drop, get_or-drop}
+use Rattle.std.proofs.Common.{◌≡◌, ℕ, suc, ◌+◌, ◌-◌, ◌^◌, ◌<◌, ◌≤◌, Bool, true, false, ◌&&◌, ◌==◌, nat_lt, List, [], ◌∷◌, length, get_or, slice_index, take, drop, Option, None, Some, refl, sym, ap, ◌∙◌, subst, arith, drop-cons, add-one, add-zero, length-drop, get_or-drop}
 use Rattle.std.proofs.lemmas.List.{drop_all}
 use Rattle.std.proofs.lemmas.Bool.Decides.{nat_tests}
-use Rattle.std.specs.Prelude.{option_map, cond}
+use Rattle.std.specs.Prelude.{option_map, cond, slice_range}
 use Rattle.wc_f4.specs.declared.runs.Kind.{Kind}
-use Rattle.wc_f4.specs.Bytes.{run_length, is_of, closing_length, has_at, value_from, digit_value}
+use Rattle.std.proofs.lemmas.Grind.{common_steps}
+use Rattle.std.specs.Char.{digit_value}
+use Rattle.std.specs.List.{AllByRecursion}
+use Rattle.std.specs.Str.Parse.{AllDigits, IsNumeral, digits_value}
+use Rattle.wc_base.specs.Decimals.{IsNumber}
+use Rattle.wc_f4.specs.declared.runs.Kind.TheVariants as kind
+use Rattle.wc_f4.specs.Bytes.{run_length, is_of, closing_length, has_at}
 use Rattle.wc_f4.specs.Tokens.{number, number_of, wrong}
 
 run_cons : (k : Kind) (b : ℕ) (bs : List ℕ) → is_of k b ≡ true → run_length k (b ∷ bs) ≡ suc (run_length k bs)
@@ -69,23 +75,40 @@ pub closes_never : (bytes : List ℕ) (i : ℕ) → length bytes ≤ i → None 
 unfolding closing_length
 closes_never bytes i end = rw (drop_all i bytes end) refl
 
--- digits only make a number greater
-value_next_digit : (base n d : ℕ) → 1 ≤ base → n ≤ n * base + d
-value_next_digit base n d some = grind (arith)
+-- the bytes of a run
+run_step : (k : Kind) (b : ℕ) (bs : List ℕ) (n : ℕ) (same : Bool) → is_of k b ≡ same → AllByRecursion (λ c. is_of k c ≡ true) (take n bs)
+    → AllByRecursion (λ c. is_of k c ≡ true) (take (cond same (suc n) 0) (b ∷ bs))
+run_step k b bs n true is all = (is, all)
+run_step k b bs n false is all = tt
 
-pub value_grows : (base n : ℕ) (digits : List ℕ) → 1 ≤ base → n ≤ value_from base n digits
-unfolding value_from
-value_grows base n [] some = omega arith
-value_grows base n (d ∷ ds) some = omega (arith, value_next_digit base n (digit_value d) some, value_grows base (n * base + digit_value d) ds some)
+pub run_sound : (k : Kind) (bytes : List ℕ) → AllByRecursion (λ b. is_of k b ≡ true) (take (run_length k bytes) bytes)
+unfolding run_length
+run_sound k [] = tt
+run_sound k (b ∷ bs) = run_step k b bs (run_length k bs) (is_of k b) refl (run_sound k bs)
 
-pub value_next : (base n : ℕ) (digits : List ℕ) (i : ℕ) → i < length digits
-    → value_from base n (drop i digits) ≡ value_from base (n * base + digit_value (slice_index digits i)) (drop (i + 1) digits)
-unfolding value_from
-value_next base n digits i more = rw (drop-cons digits i 0 more, add-one) refl
+-- digits
+pub decimal_digit : (b : ℕ) → is_of kind.Decimal b ≡ true → digit_value b < 10
+decimal_digit b is = grind (arith, nat_tests)
 
-pub value_ends : (base n : ℕ) (digits : List ℕ) (i : ℕ) → length digits ≤ i → value_from base n (drop i digits) ≡ n
-unfolding value_from
-value_ends base n digits i end = rw (drop_all i digits end) refl
+pub hexadecimal_digit : (b : ℕ) → is_of kind.Hexadecimal b ≡ true → digit_value b < 16
+hexadecimal_digit b is = grind (arith, nat_tests)
+
+digits_of : (k : Kind) (base : ℕ) → ((b : ℕ) → is_of k b ≡ true → digit_value b < base) → (ds : List ℕ) → AllByRecursion (λ b. is_of k b ≡ true) ds → AllDigits base ds
+digits_of k base digit [] all = tt
+digits_of k base digit (d ∷ ds) (is, all) = (digit d is, digits_of k base digit ds all)
+
+-- a run at the front, and one behind other bytes
+pub run_front : (k : Kind) (base : ℕ) → ((b : ℕ) → is_of k b ≡ true → digit_value b < base) → (bytes : List ℕ) (n : ℕ) → n ≡ run_length k bytes → 0 < n → n ≤ length bytes
+    → IsNumeral base (take n bytes)
+run_front k base digit bytes n is some inside =
+    let long : length (take n bytes) ≡ n = grind (arith, common_steps) in
+    (omega (arith, long), digits_of k base digit (take n bytes) (subst (λ (m : ℕ). AllByRecursion (λ b. is_of k b ≡ true) (take m bytes)) (sym is) (run_sound k bytes)))
+
+pub run_behind : (k : Kind) (base : ℕ) → ((b : ℕ) → is_of k b ≡ true → digit_value b < base) → (bytes : List ℕ) (at n : ℕ) → n ≡ run_length k (drop at bytes) → 0 < n → n ≤ length (drop at bytes)
+    → IsNumeral base (slice_range bytes at (at + n))
+run_behind k base digit bytes at n is some inside =
+    let same : n ≡ at + n - at = omega arith in
+    subst (λ (m : ℕ). IsNumeral base (take m (drop at bytes))) same (run_front k base digit (drop at bytes) n is some inside)
 
 number_above : (n : ℕ) → 2 ^ 32 ≤ n → cond (nat_lt n (2 ^ 32)) (number n) wrong ≡ wrong
 number_above n many = let no : nat_lt n (2 ^ 32) ≡ false = grind (arith, nat_tests) in rw no refl
@@ -93,15 +116,8 @@ number_above n many = let no : nat_lt n (2 ^ 32) ≡ false = grind (arith, nat_t
 pub number_below : (n : ℕ) → n < 2 ^ 32 → cond (nat_lt n (2 ^ 32)) (number n) wrong ≡ number n
 number_below n few = let is : nat_lt n (2 ^ 32) ≡ true = grind (arith, nat_tests) in rw is refl
 
-pub too_great : (base n : ℕ) (digits : List ℕ) (i : ℕ) → i < length digits → 1 ≤ base
-    → value_from base n (drop i digits) ≡ value_from base 0 digits → 2 ^ 32 ≤ n * base + digit_value (slice_index digits i)
-    → wrong ≡ number_of base digits
-too_great base n digits i more some is many =
-    sym (number_above (value_from base 0 digits)
-    (omega (arith, is, value_next base n digits i more, value_grows base (n * base + digit_value (slice_index digits i)) (drop (i + 1) digits) some)))
+pub read_some : (base : ℕ) (digits : List ℕ) (n : ℕ) → IsNumber base digits n → n ≤ 2 ^ 32 - 1 → number n ≡ number_of base digits
+read_some base digits n (numeral, is) few = ap number (sym is) ∙ sym (number_below (digits_value base digits) (omega (arith, is)))
 
-pub all_digits : (base n : ℕ) (digits : List ℕ) (i : ℕ) → length digits ≤ i → n < 2 ^ 32
-    → value_from base n (drop i digits) ≡ value_from base 0 digits → number n ≡ number_of base digits
-all_digits base n digits i end few is =
-    let same : n ≡ value_from base 0 digits = sym (value_ends base n digits i end) ∙ is in
-    ap number same ∙ sym (number_below (value_from base 0 digits) (omega (arith, same)))
+pub read_none : (base : ℕ) (digits : List ℕ) → IsNumeral base digits → ((n : ℕ) → IsNumber base digits n → 2 ^ 32 - 1 < n) → wrong ≡ number_of base digits
+read_none base digits numeral many = sym (number_above (digits_value base digits) (omega (arith, many (digits_value base digits) (numeral, refl))))

@@ -1,23 +1,24 @@
 -- What the tokens of a text are like, and so the facts that they state.
-use Rattle.std.proofs.Common.{◌≡◌, ℕ, zero, suc, ◌+◌, ◌-◌, ◌<◌, ◌^◌, Bool, true, false, ◌&&◌, ◌==◌, cond, nat_lt, List, [], ◌∷◌, ◌++◌, take, drop, Option, None, Some, refl, subst, arith, inl, inr}
+use Rattle.std.proofs.Common.{◌≡◌, ℕ, zero, suc, ◌+◌, ◌-◌, ◌<◌, ◌^◌, Bool, true, false, ◌&&◌, ◌==◌, cond, nat_lt, List, [], ◌∷◌, ◌++◌, drop, Option, None, Some, refl, subst, arith, inl, inr}
 use Rattle.std.proofs.lemmas.Bool.Decides.{nat_tests}
 use Rattle.std.specs.List.{AllByRecursion}
 use Rattle.std.specs.Prelude.{IfSome}
+use Rattle.std.specs.Str.Parse.{digits_value}
 use Rattle.wc_model.specs.declared.flow_facts.Fact.{Fact}
 use Rattle.wc_model.specs.declared.flow_facts.Fact.TheVariants.{Loop, Multibranch, Multicall, Noreturn, Checksum, Limit}
 use Rattle.wc_model.specs.declared.flow_facts.Term.{Term}
 use Rattle.wc_model.specs.declared.flow_facts.Term.TheVariants.{Constant, Visits}
-use Rattle.wc_f4.specs.declared.runs.Kind.{Kind}
 use Rattle.wc_f4.specs.declared.runs.Kind.TheVariants as kind
 use Rattle.wc_f4.specs.declared.tokens.Mark.{Mark}
 use Rattle.wc_f4.specs.declared.tokens.Mark.TheVariants as sign
 use Rattle.wc_f4.specs.declared.tokens.Word.{Word}
 use Rattle.wc_f4.specs.declared.tokens.Word.TheVariants as keyword
-use Rattle.wc_f4.specs.Bytes.{closing_length, has_at, is_blank, is_digit, is_letter, is_of, is_quoted, run_length, value_from}
+use Rattle.wc_f4.specs.Bytes.{closing_length, has_at, is_blank, is_digit, is_letter, is_quoted, run, run_length}
 use Rattle.wc_f4.specs.Grammar.{Names, IsAddress, plain, named, above, below, AreAddresses, IsBranching, IsFact, IsSum, IsTerm, IsText, IsWithin, IsBound, bracketed}
 use Rattle.wc_f4.specs.Stated.{IsFilled, IsSmall, IsStated, IsStatedTerm}
 use Rattle.wc_f4.specs.Tokens.{Token, Piece, Placed, closed_comment, mark_of, number_of, piece_at, tokens_from, tokens_of, with_token, word, number, quoted, mark, wrong}
 use Rattle.wc_f4.proofs.GrammarLemmas.{Bounded}
+use Rattle.wc_f4.proofs.RunLemmas.{run_sound}
 
 -- a number has 32 bits, and a string's bytes can stand in one
 abbrev IsSound : Token → Type 0
@@ -49,17 +50,7 @@ below_limit v true is = grind (arith, nat_tests)
 below_limit v false is = tt
 
 number_sound : (base : ℕ) (digits : List ℕ) → IsSound (number_of base digits)
-number_sound base digits = below_limit (value_from base 0 digits) (nat_lt (value_from base 0 digits) (2 ^ 32)) refl
-
-run_step : (k : Kind) (b : ℕ) (bs : List ℕ) (n : ℕ) (same : Bool) → is_of k b ≡ same → AllByRecursion (λ c. is_of k c ≡ true) (take n bs)
-    → AllByRecursion (λ c. is_of k c ≡ true) (take (cond same (suc n) 0) (b ∷ bs))
-run_step k b bs n true is all = (is, all)
-run_step k b bs n false is all = tt
-
-run_sound : (k : Kind) (bytes : List ℕ) → AllByRecursion (λ b. is_of k b ≡ true) (take (run_length k bytes) bytes)
-unfolding run_length
-run_sound k [] = tt
-run_sound k (b ∷ bs) = run_step k b bs (run_length k bs) (is_of k b) refl (run_sound k bs)
+number_sound base digits = below_limit (digits_value base digits) (nat_lt (digits_value base digits) (2 ^ 32)) refl
 
 closed_sound : (n : Option ℕ) → OfPiece (closed_comment n).0
 closed_sound None = tt
@@ -71,7 +62,7 @@ piece_sound first rest =
     either (is_blank first) _ _ tt
     (either (is_letter first) _ _ tt
     (either (is_digit first) _ _
-    (either (has_at rest 0 48 && has_at rest 1 120 && nat_lt 0 (run_length kind.Hexadecimal (drop 2 rest))) _ _ (number_sound 16 _) (number_sound 10 _))
+    (either (has_at rest 0 48 && has_at rest 1 120 && nat_lt 0 (run_length kind.Hexadecimal (drop 2 rest))) _ _ (number_sound 16 (run kind.Hexadecimal (drop 2 rest))) (number_sound 10 (run kind.Decimal rest)))
     (either (first == 34) _ _ (either (has_at rest (run_length kind.Quoted (drop 1 rest) + 1) 34) _ _ (run_sound kind.Quoted (drop 1 rest)) tt)
     (either (first == 47) _ _ (either (has_at rest 1 47) _ _ tt (either (has_at rest 1 42) _ _ (closed_sound (closing_length (drop 2 rest))) tt))
     (either (first == 60) _ _ (either (has_at rest 1 61) _ _ tt tt)

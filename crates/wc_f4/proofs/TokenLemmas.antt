@@ -3,7 +3,7 @@ use Rattle.std.proofs.Common.{◌≡◌, ℕ, zero, suc, ◌+◌, ◌-◌, ◌�
 use Rattle.std.proofs.lemmas.List.{drop_all}
 use Rattle.std.proofs.lemmas.Grind.{common_steps}
 use Rattle.std.specs.Prelude.{option_map}
-use Rattle.wc_f4.specs.Bytes.{IsInside, run_length, closing_length, is_blank, is_letter, is_digit, has_at}
+use Rattle.wc_f4.specs.Bytes.{IsInside, run, run_length, closing_length, is_blank, is_letter, is_digit, has_at}
 use Rattle.wc_f4.specs.Tokens.{Token, Piece, Placed, piece_at, number_of, closed_comment, mark_of, tokens_from, with_token, word, number, quoted, mark, wrong, text_end}
 use Rattle.wc_f4.specs.declared.tokens.Mark.{Mark}
 use Rattle.wc_f4.specs.declared.tokens.Word.{Word}
@@ -105,7 +105,7 @@ no_end first rest =
     either (is_blank first) _ _ none_no_end
     (either (is_letter first) _ _ (word_no_end _)
     (either (is_digit first) _ _
-    (either (has_at rest 0 48 && has_at rest 1 120 && nat_lt 0 (run_length kind.Hexadecimal (drop 2 rest))) _ _ (number_no_end 16 _) (number_no_end 10 _))
+    (either (has_at rest 0 48 && has_at rest 1 120 && nat_lt 0 (run_length kind.Hexadecimal (drop 2 rest))) _ _ (number_no_end 16 (run kind.Hexadecimal (drop 2 rest))) (number_no_end 10 (run kind.Decimal rest)))
     (either (first == 34) _ _ (either (has_at rest (run_length kind.Quoted (drop 1 rest) + 1) 34) _ _ (quoted_no_end _) wrong_no_end)
     (either (first == 47) _ _ (either (has_at rest 1 47) _ _ none_no_end (either (has_at rest 1 42) _ _ (closed_no_end (closing_length (drop 2 rest))) wrong_no_end))
     (either (first == 60) _ _ (either (has_at rest 1 61) _ _ (some_no_end _ (mark_other _)) wrong_no_end)

@@ -1,5 +1,5 @@
 -- The kinds of bytes of a text of flow facts, and runs of them.
-use Rattle.std.specs.Prelude.{ℕ, suc, ◌+◌, ◌-◌, ◌*◌, ◌≤◌, Bool, not, ◌&&◌, ◌||◌, ◌==◌, nat_le, nat_lt, if◌then◌else◌, List, [], ◌∷◌, length, take, slice_index, Option, None, Some, option_map}
+use Rattle.std.specs.Prelude.{ℕ, suc, ◌+◌, ◌≤◌, Bool, not, ◌&&◌, ◌||◌, ◌==◌, nat_le, nat_lt, if◌then◌else◌, List, [], ◌∷◌, length, take, slice_index, Option, None, Some, option_map}
 use Rattle.wc_f4.specs.declared.runs.Kind.{Kind}
 use Rattle.wc_f4.specs.declared.runs.Kind.TheVariants.{Letter, Decimal, Hexadecimal, Quoted, Line}
 
@@ -47,11 +47,3 @@ IsInside count bytes = (1 ≤ count) × (count ≤ length bytes)
 unfoldable pub closing_length : List ℕ → Option ℕ
 closing_length [] = None
 closing_length (b ∷ bs) = if b == 42 && has_at bs 0 47 then Some 2 else option_map (λ n. n + 1) (closing_length bs)
-
-abbrev pub digit_value : ℕ → ℕ
-digit_value b = if is_digit b then b - 48 else (if nat_le 65 b && nat_le b 70 then b - 55 else (if nat_le 97 b && nat_le b 102 then b - 87 else 0))
-
--- the number that digits stand for, behind digits that stand for n
-unfoldable pub value_from : ℕ → ℕ → List ℕ → ℕ
-value_from base n [] = n
-value_from base n (d ∷ ds) = value_from base (n * base + digit_value d) ds

@@ -2,6 +2,7 @@ pub mod Bytes
 pub mod FactText
 pub mod Grammar
 pub mod NameOrder
+pub mod Parts
 pub mod Places
 pub mod Reading
 pub mod Stated

@@ -1,5 +1,5 @@
 -- What may stand at each place of a text of flow facts, and what the tokens so far state.
-use Rattle.std.specs.Prelude.{ℕ, ◌+◌, ◌-◌, ◌^◌, ◌≡◌, Bool, true, false, nat_le, nat_lt, if◌then◌else◌, List, [], ◌∷◌, ◌++◌, ◌<◌, length, Option, None, Some, IfOk, Result, Ok, Err}
+use Rattle.std.specs.Prelude.{ℕ, ◌+◌, ◌-◌, ◌^◌, ◌≡◌, Bool, true, false, nat_le, nat_lt, if◌then◌else◌, List, [], ◌∷◌, ◌++◌, Option, None, Some, Result, Ok, Err}
 use Rattle.wc_model.specs.declared.flow_facts.Fact.{Fact}
 use Rattle.wc_model.specs.declared.flow_facts.Fact.TheVariants.{Loop, Multibranch, Multicall, Noreturn, Checksum, Limit}
 use Rattle.wc_model.specs.declared.flow_facts.Term.{Term}
@@ -250,34 +250,3 @@ abbrev pub Goes : {X : Type 0} → Result X Stop → Answer → (X → Answer) �
 Goes (Ok x) before after = before ≡ after x
 Goes (Err (Memory _)) before after = Unit {0}
 Goes (Err stop) before after = before ≡ Err stop
-
--- A part that stands at a place was read, and what follows stands behind it: before it these names and tokens were there, and
--- behind it those.
-abbrev pub Reads : {X : Type 0} → Place → (X → Place) → Result X Stop → Names × List Placed → Names × List Placed → Type 0
-Reads place next result old new =
-    (later : Place) (facts : List Fact) → Goes result (answer old.0 later place facts old.1) (λ x. answer new.0 later (next x) facts new.1)
-
--- the rest of a fact was read
-abbrev pub ReadsFact : Place → Result Fact Stop → Names × List Placed → Names × List Placed → Type 0
-ReadsFact place result old new =
-    (later : Place) (facts : List Fact) → Goes result (answer old.0 later place facts old.1) (λ fact. answer new.0 later later (facts ++ fact ∷ []) new.1)
-
--- the address of any fact was read
-abbrev pub ReadsAddress : (Part → Place) → Result ℕ Stop → Names × List Placed → Names × List Placed → Type 0
-ReadsAddress place result old new = (part : Part) → Reads (place part) (λ at. behind (after_address part at)) result old new
-
--- a term of either side was read
-abbrev pub ReadsTerm : (Side → Place) → Result Term Stop → Names × List Placed → Names × List Placed → Type 0
-ReadsTerm place result old new = (side : Side) → Reads (place side) (λ t. after_term (with_term side t)) result old new
-
--- what stands behind one address of a list
-abbrev pub after_one : Owner → List ℕ → Bool → Place
-after_one owner addresses more = if more then address (listed owner addresses) else whole owner addresses
-
--- what stands behind one term of a sum
-abbrev pub after_one_term : Side → List Term → Bool → Place
-after_one_term side terms more = if more then term (with_terms side terms) else ended (with_terms side terms)
-
--- something was taken from the tokens
-abbrev pub Shortens : {X : Type 0} → Result X Stop → List Placed → List Placed → Type 0
-Shortens result old new = IfOk result (λ _. length new < length old)

@@ -50,9 +50,19 @@ abbrev pub Refuses : Wanted → Names → List ℕ → Trouble → Type 0
 Refuses wanted names text (Refused fault) = IsFirstWrong wanted names text fault
 Refuses wanted names text (Memory _) = Unit {0}
 
+-- reading gives it back, unless memory runs out
+abbrev pub GivesBack : {X : Type 0} → X → Result X Trouble → Type 0
+GivesBack stated (Ok read) = read ≡ stated
+GivesBack stated (Err (Refused _)) = ⊥
+GivesBack stated (Err (Memory _)) = Unit {0}
+
 abbrev pub ReadsFacts : Names → List ℕ → Result (List Fact) Trouble → Type 0
 ReadsFacts names text (Ok facts) = IsWhole any names (tokens_of (placed_tokens text)) facts
 ReadsFacts names text (Err trouble) = Refuses any names text trouble
+
+-- the facts that a text states are given back, unless memory runs out
+abbrev pub GivesAll : Names → List ℕ → Result (List Fact) Trouble → Type 0
+GivesAll names text result = (facts : List Fact) → IsWhole any names (tokens_of (placed_tokens text)) facts → GivesBack facts result
 
 abbrev pub ReadsOne : Names → List ℕ → Result Fact Trouble → Type 0
 ReadsOne names text (Ok fact) = IsWhole one names (tokens_of (placed_tokens text)) (fact ∷ [])
@@ -68,8 +78,6 @@ abbrev pub map_value : {X Y : Type 0} → (X → Y) → Result X Trouble → Res
 map_value f (Ok x) = Ok (f x)
 map_value f (Err trouble) = Err trouble
 
--- reading gives it back, unless memory runs out
-abbrev pub GivesBack : {X : Type 0} → X → Result X Trouble → Type 0
-GivesBack stated (Ok read) = read ≡ stated
-GivesBack stated (Err (Refused _)) = ⊥
-GivesBack stated (Err (Memory _)) = Unit {0}
+-- a text that reads as the fact, under any names
+abbrev pub IsReadAs : List ℕ → Fact → Type 0
+IsReadAs text fact = (names : Names) (read : Result Fact Trouble) → ReadsOne names text read → GivesBack fact read

@@ -1,11 +1,12 @@
 -- The tokens of a text of flow facts. A token takes as many bytes as it can.
 use Rattle.std.specs.Prelude.{ℕ, zero, suc, ◌+◌, ◌-◌, ◌^◌, ◌&&◌, ◌==◌, nat_lt, if◌then◌else◌, List, [], ◌∷◌, codes, bytes_eq, map, drop, take, sum_by, Option, None, Some}
+use Rattle.std.specs.Str.Parse.{digits_value}
 use Rattle.wc_f4.specs.declared.tokens.Mark.{Mark}
 use Rattle.wc_f4.specs.declared.tokens.Mark.TheVariants as sign
 use Rattle.wc_f4.specs.declared.tokens.Word.{Word}
 use Rattle.wc_f4.specs.declared.tokens.Word.TheVariants.{Loop, Multibranch, Multicall, Noreturn, Checksum, Limit, To, In, Other}
 use Rattle.wc_f4.specs.declared.runs.Kind.TheVariants as kind
-use Rattle.wc_f4.specs.Bytes.{is_blank, is_letter, is_digit, run, run_length, has_at, closing_length, value_from}
+use Rattle.wc_f4.specs.Bytes.{is_blank, is_letter, is_digit, run, run_length, has_at, closing_length}
 
 pub data Token : Type 0 where
   word : Word → Token
@@ -32,12 +33,15 @@ mark_of b =
 
 -- numbers are below 2^32
 abbrev pub number_of : ℕ → List ℕ → Token
-number_of base digits = if nat_lt (value_from base 0 digits) (2 ^ 32) then number (value_from base 0 digits) else wrong
+number_of base digits = if nat_lt (digits_value base digits) (2 ^ 32) then number (digits_value base digits) else wrong
 
 -- What stands at the front of a text that isn't empty: a token, or nothing where it is a blank or a comment, and how many
 -- bytes it takes.
 abbrev pub Piece : Type 0
 Piece = Option Token × ℕ
+
+abbrev pub word_at : List ℕ → Piece
+word_at rest = (Some (word (word_of (run kind.Letter rest))), run_length kind.Letter rest)
 
 -- decimal digits, or `0x` and hexadecimal digits
 abbrev pub number_at : List ℕ → Piece
@@ -69,7 +73,7 @@ at_most_at rest = if has_at rest 1 61 then (Some (mark sign.AtMost), 2) else (So
 abbrev pub piece_from : ℕ → List ℕ → Piece
 piece_from first rest =
     if is_blank first then (None, 1) else
-    (if is_letter first then (Some (word (word_of (run kind.Letter rest))), run_length kind.Letter rest) else
+    (if is_letter first then word_at rest else
     (if is_digit first then number_at rest else
     (if first == 34 then quoted_at rest else
     (if first == 47 then comment_at rest else

@@ -1,6 +1,7 @@
-ghost use Rattle.std.specs.Prelude.{◌≤◌, [], IfOk, length};
-ghost use Rattle.wc_f4.specs.Places.{Reads, ReadsAddress, Shortens, above, address, after_one, behind, below, label, listed, moved, whole, within};
-ghost use Rattle.wc_f4.specs.Views.{Alone, ahead, left};
+ghost use Rattle.std.specs.Prelude.{◌≤◌, IfOk, length};
+ghost use Rattle.wc_f4.specs.Parts.{AddsAddress, ReadsAddress, Shortens, TakesAddress, TakesList, before_list, before_within};
+ghost use Rattle.wc_f4.specs.Places.{above, address, below, label, moved};
+ghost use Rattle.wc_f4.specs.Views.{Alone, left};
 
 use crate::lookups::Lookup;
 use crate::readers::Reader;
@@ -52,7 +53,7 @@ fn moved(reader: &mut Reader, base: Addr) -> Result<Addr, Stop>
 
 /// Reads a name and what may stand behind it.
 fn named(reader: &mut Reader, names: &mut Lookup) -> Result<Addr, Stop>
-    ensures read { ReadsAddress label result (ahead names.old reader.old) (ahead names.new reader.new) }
+    ensures read { TakesAddress label result names.old reader.old names.new reader.new }
     ensures shorter { Shortens result (left reader.old) (left reader.new) }
 {
     let place = reader.place();
@@ -65,7 +66,7 @@ fn named(reader: &mut Reader, names: &mut Lookup) -> Result<Addr, Stop>
 
 /// Reads an address.
 pub fn address(reader: &mut Reader, names: &mut Lookup) -> Result<Addr, Stop>
-    ensures read { ReadsAddress address result (ahead names.old reader.old) (ahead names.new reader.new) }
+    ensures read { TakesAddress address result names.old reader.old names.new reader.new }
     ensures shorter { Shortens result (left reader.old) (left reader.new) }
 {
     match reader.any_number() {
@@ -80,8 +81,7 @@ fn next_address(
     reader: &mut Reader,
     names: &mut Lookup,
 ) -> Result<bool, Stop>
-    ensures read { (owner : _) → Reads (address (listed owner addresses.old.items)) (after_one owner addresses.new.items) result
-        (ahead names.old reader.old) (ahead names.new reader.new) }
+    ensures read { AddsAddress addresses.old addresses.new result names.old reader.old names.new reader.new }
     ensures shorter { Shortens result (left reader.old) (left reader.new) }
 {
     let at = address(reader, names)?;
@@ -91,7 +91,7 @@ fn next_address(
 
 /// Reads addresses with `,` between them.
 pub fn addresses(alloc: Global, reader: &mut Reader, names: &mut Lookup) -> Result<Targets, Stop>
-    ensures read { (owner : _) → Reads (address (listed owner [])) (whole owner) result (ahead names.old reader.old) (ahead names.new reader.new) }
+    ensures read { TakesList before_list result names.old reader.old names.new reader.new }
     ensures shorter { Shortens result (left reader.old) (left reader.new) }
 {
     let mut addresses = Vec::new(alloc);
@@ -101,7 +101,7 @@ pub fn addresses(alloc: Global, reader: &mut Reader, names: &mut Lookup) -> Resu
 
 /// Reads the calls of a call string, if there is one.
 pub fn within(alloc: Global, reader: &mut Reader, names: &mut Lookup) -> Result<Targets, Stop>
-    ensures read { (owner : _) → Reads (behind (within owner)) (whole owner) result (ahead names.old reader.old) (ahead names.new reader.new) }
+    ensures read { TakesList before_within result names.old reader.old names.new reader.new }
     ensures shorter { IfOk result (λ _. length (left reader.new) ≤ length (left reader.old)) }
 {
     if reader.has_keyword(Word::In) {

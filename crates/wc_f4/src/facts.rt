@@ -1,6 +1,7 @@
 ghost use Rattle.std.specs.Prelude.{◌≡◌, [], IfOk};
-ghost use Rattle.wc_f4.specs.Places.{Reads, ReadsFact, Shortens, address, at_closing, behind, bound, bounded, branching, first, left as left_sum, looped, name, noreturn, term, turn, within};
-ghost use Rattle.wc_f4.specs.Views.{Alone, ahead, left};
+ghost use Rattle.wc_f4.specs.Parts.{ReadsBound, ReadsEnd, ReadsFact, Shortens, TakesFact};
+ghost use Rattle.wc_f4.specs.Places.{address, branching, first, left as left_sum, looped, name, noreturn, term};
+ghost use Rattle.wc_f4.specs.Views.{Alone, left};
 
 use crate::addresses::{address, addresses, within};
 use crate::branchings::{Branching, branching_fact};
@@ -22,8 +23,7 @@ fn copy_of(alloc: Global, bytes: &[u8]) -> Result<Text, AllocError>
 
 /// Reads the end of a fact, at a place where nothing else may stand.
 fn closed(reader: &mut Reader, fact: Fact) -> Result<Fact, Stop>
-    ensures read { (names : _) (place : _) → ((t : _) → turn names place t ≡ at_closing fact t)
-        → ReadsFact place result (names, left reader.old) (names, left reader.new) }
+    ensures read { Alone (ReadsEnd fact result) reader.old reader.new }
     ensures shorter { Shortens result (left reader.old) (left reader.new) }
 {
     reader.mark(Mark::Semicolon)?;
@@ -32,7 +32,7 @@ fn closed(reader: &mut Reader, fact: Fact) -> Result<Fact, Stop>
 
 /// Reads the bound of a loop.
 fn bound(reader: &mut Reader) -> Result<Option<u32>, Stop>
-    ensures read { (at : _) → Alone (Reads (behind (bound at)) (λ n. behind (within (bounded at n))) result) reader.old reader.new }
+    ensures read { Alone (ReadsBound result) reader.old reader.new }
     ensures shorter { Shortens result (left reader.old) (left reader.new) }
 {
     if reader.has_mark(Mark::Question) {
@@ -42,7 +42,7 @@ fn bound(reader: &mut Reader) -> Result<Option<u32>, Stop>
 }
 
 fn loop_fact(alloc: Global, reader: &mut Reader, names: &mut Lookup) -> Result<Fact, Stop>
-    ensures read { ReadsFact (address looped) result (ahead names.old reader.old) (ahead names.new reader.new) }
+    ensures read { TakesFact (address looped) result names.old reader.old names.new reader.new }
     ensures shorter { Shortens result (left reader.old) (left reader.new) }
 {
     let at = address(reader, names)?;
@@ -58,7 +58,7 @@ fn branching(
     names: &mut Lookup,
     kind: Branching,
 ) -> Result<Fact, Stop>
-    ensures read { ReadsFact (address (branching kind)) result (ahead names.old reader.old) (ahead names.new reader.new) }
+    ensures read { TakesFact (address (branching kind)) result names.old reader.old names.new reader.new }
     ensures shorter { Shortens result (left reader.old) (left reader.new) }
 {
     let at = address(reader, names)?;
@@ -68,7 +68,7 @@ fn branching(
 }
 
 fn noreturn_fact(reader: &mut Reader, names: &mut Lookup) -> Result<Fact, Stop>
-    ensures read { ReadsFact (address noreturn) result (ahead names.old reader.old) (ahead names.new reader.new) }
+    ensures read { TakesFact (address noreturn) result names.old reader.old names.new reader.new }
     ensures shorter { Shortens result (left reader.old) (left reader.new) }
 {
     let at = address(reader, names)?;
@@ -86,7 +86,7 @@ fn checksum(alloc: Global, reader: &mut Reader) -> Result<Fact, Stop>
 }
 
 fn limit(alloc: Global, reader: &mut Reader, names: &mut Lookup) -> Result<Fact, Stop>
-    ensures read { ReadsFact (term (left_sum [])) result (ahead names.old reader.old) (ahead names.new reader.new) }
+    ensures read { TakesFact (term (left_sum [])) result names.old reader.old names.new reader.new }
     ensures shorter { Shortens result (left reader.old) (left reader.new) }
 {
     let left = sum(alloc, reader, names)?;
@@ -97,7 +97,7 @@ fn limit(alloc: Global, reader: &mut Reader, names: &mut Lookup) -> Result<Fact,
 
 /// Reads a fact.
 pub fn fact(alloc: Global, reader: &mut Reader, names: &mut Lookup) -> Result<Fact, Stop>
-    ensures read { ReadsFact first result (ahead names.old reader.old) (ahead names.new reader.new) }
+    ensures read { TakesFact first result names.old reader.old names.new reader.new }
     ensures shorter { Shortens result (left reader.old) (left reader.new) }
 {
     let place = reader.place();

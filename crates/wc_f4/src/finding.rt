@@ -1,5 +1,5 @@
 ghost use Rattle.std.specs.Prelude.{◌≡◌, IfOk};
-ghost use Rattle.wc_f4.specs.NameOrder.{IsNameOrder};
+ghost use Rattle.wc_f4.specs.NameOrder.{OrdersNames};
 ghost use Rattle.wc_f4.specs.Reading.{found};
 ghost use Rattle.wc_f4.specs.Views.{known};
 ghost use Rattle.wc_model.specs.Program.Words.{address_of};
@@ -36,7 +36,7 @@ impl<'a> Lookup<'a> {
 
     /// Takes the order of names out, or makes it.
     fn take_order(&mut self) -> Result<Vec<Name>, AllocError>
-        ensures order { IfOk result (λ v. IsNameOrder self.old.image.now.bytes self.old.image.now.names v.items) }
+        ensures order { IfOk result (λ order. OrdersNames self.old.image.now order.items) }
         ensures same { self.new.image.now ≡ self.old.image.now }
     {
         match self.order.take() {

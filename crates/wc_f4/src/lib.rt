@@ -1,4 +1,4 @@
-//! The flow facts of a program, read from a text in the F4 profile and printed again.
+//! The flow facts of a program, read from a text and printed again: a profile after the F4 files of OTAWA (2010).
 #![tactic(auto)]
 
 mod addresses;

@@ -1,5 +1,5 @@
 ghost use Rattle.std.specs.Option.{ForSome};
-ghost use Rattle.wc_f4.specs.NameOrder.{IsNameOrder};
+ghost use Rattle.wc_f4.specs.NameOrder.{OrdersNames};
 
 use std::alloc::Global;
 use wc_model::{Image, Name};
@@ -12,5 +12,5 @@ pub struct Lookup<'a> {
     pub image: &'a Image,
     pub is_asked: bool,
     pub order: Option<Vec<Name>>,
-    ghost ordered: { ForSome order (λ v. IsNameOrder image.now.bytes image.now.names v.items) },
+    ghost ordered: { ForSome order (λ v. OrdersNames image.now v.items) },
 }

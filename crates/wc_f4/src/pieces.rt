@@ -1,11 +1,12 @@
 ghost use Rattle.std.specs.Prelude.{◌≡◌, ◌<◌, ◌≤◌, bytes_eq, true, length, slice_index, Some};
-ghost use Rattle.wc_f4.specs.Bytes.{IsInside, is_blank, is_digit, is_letter, run, run_length as run_length_of};
-ghost use Rattle.wc_f4.specs.declared.runs.Kind.TheVariants.{Letter};
-ghost use Rattle.wc_f4.specs.Tokens.{at_most_at, comment_at, mark_of, number_at, number_of, piece_at, quoted_at, word, word_of as word_of_bytes, wrong};
+ghost use Rattle.std.specs.Str.Parse.{IsNumeral};
+ghost use Rattle.wc_f4.specs.Bytes.{IsInside, is_blank, is_digit, is_letter};
+ghost use Rattle.wc_f4.specs.Tokens.{at_most_at, comment_at, mark_of, number_at, number_of, piece_at, quoted_at, word_at, word_of as word_of_bytes, wrong};
 ghost use Rattle.wc_f4.specs.Views.{piece_of, seen};
 
-use crate::runs::{Kind, closing_length, digit_value, has_at, is_of, run_length};
+use crate::runs::{Kind, closing_length, has_at, is_of, run_length};
 use crate::tokens::{Mark, Token, Word};
+use wc_base::read_number;
 
 /// What stands at the front of a text: its token, unless it is a blank or a comment, and how many bytes it takes.
 #[derive(Clone, Copy)]
@@ -61,19 +62,16 @@ fn mark_of<'a>(byte: u8) -> Token<'a>
 }
 
 /// The number that the digits stand for, if it is below 2^32.
-fn number_of<'a>(digits: &[u8], base: u64) -> Token<'a>
-    requires some { 1 ≤ base }
-    requires few { base ≤ 16 }
+fn number_of<'a>(digits: &[u8], base: u32) -> Token<'a>
+    requires some { 2 ≤ base }
+    requires few { base ≤ 36 }
+    requires digits { IsNumeral base digits.now }
     ensures { seen result ≡ number_of base digits.now }
 {
-    let mut value = 0u64;
-    for digit in digits {
-        value = value * base + digit_value(*digit);
-        if value >= 1 << 32 {
-            return Token::Wrong;
-        }
+    match read_number(digits, base, u32::MAX as u64) {
+        Some(number) => Token::Number(number as u32),
+        None => Token::Wrong,
     }
-    Token::Number(value as u32)
 }
 
 fn number_at(rest: &[u8]) -> Piece<'_>
@@ -169,7 +167,7 @@ fn is_blank(byte: u8) -> bool
 fn word_at(rest: &[u8]) -> Piece<'_>
     requires some { 0 < length rest.now }
     requires letter { is_letter (slice_index rest.now 0) ≡ true }
-    ensures value { piece_of result ≡ (Some (word (word_of_bytes (run Letter rest.now))), run_length_of Letter rest.now) }
+    ensures value { piece_of result ≡ word_at rest.now }
     ensures inside { IsInside result.length rest.now }
 {
     let length = run_length(rest, Kind::Letter);

@@ -1,11 +1,9 @@
-ghost use Rattle.std.specs.Prelude.{◌≡◌, ◌++◌, codes, decimal, IfOk};
-ghost use Rattle.wc_base.specs.FaultTexts.{address};
+ghost use Rattle.std.specs.Prelude.{◌≡◌, ◌++◌, codes, IfOk};
 ghost use Rattle.wc_io.specs.Causes.{HasCause};
 ghost use Rattle.wc_io.specs.Writing.{Writes};
-ghost use Rattle.wc_f4.specs.Reading.{GivesBack, ReadsOne};
+ghost use Rattle.wc_f4.specs.Reading.{IsReadAs};
 ghost use Rattle.wc_f4.specs.Stated.{IsStated};
-ghost use Rattle.wc_f4.specs.FactText.{addresses_text, bound_text, branching_text, fact_text, limit_text, loop_text, separated, sum_text, term_text, times_text, within_text};
-ghost use Rattle.wc_model.specs.declared.flow_facts.Term.TheVariants.{Visits};
+ghost use Rattle.wc_f4.specs.FactText.{addresses_text, bounded_text, branching_text, checksum_text, fact_text, last_side_text, limit_text, loop_text, more_addresses_text, more_terms_text, sum_text, term_text, times_text, visited_text, visits_text, within_text};
 
 use std::alloc::{AllocError, Global};
 use wc_base::Addr;
@@ -14,7 +12,7 @@ use wc_model::{Fact, Term};
 
 /// Appends addresses, each behind a comma.
 fn write_more_addresses<K: Sink>(sink: &mut K, addresses: &[Addr]) -> Result<(), Failed>
-    ensures text { Writes (K.held sink.old) (K.held sink.new) result (separated (codes ", ") address addresses.now) }
+    ensures text { Writes (K.held sink.old) (K.held sink.new) result (more_addresses_text addresses.now) }
     ensures cause { HasCause (K.faults sink.old) (K.faults sink.new) result }
     ensures place { K.place sink.new ≡ K.place sink.old }
 {
@@ -38,12 +36,12 @@ fn write_addresses<K: Sink>(sink: &mut K, addresses: &[Addr]) -> Result<(), Fail
 }
 
 /// Appends addresses and what ends them.
-fn write_list<K: Sink>(sink: &mut K, addresses: &[Addr], end: &[u8]) -> Result<(), Failed>
-    ensures text { Writes (K.held sink.old) (K.held sink.new) result (addresses_text addresses.now ++ end.now) }
+fn write_list<K: Sink>(sink: &mut K, list: &[Addr], end: &[u8]) -> Result<(), Failed>
+    ensures text { Writes (K.held sink.old) (K.held sink.new) result (addresses_text list.now ++ end.now) }
     ensures cause { HasCause (K.faults sink.old) (K.faults sink.new) result }
     ensures place { K.place sink.new ≡ K.place sink.old }
 {
-    write_addresses(sink, addresses)?;
+    write_addresses(sink, list)?;
     write_whole(sink, end)
 }
 
@@ -74,7 +72,7 @@ fn write_times<K: Sink>(sink: &mut K, times: u32) -> Result<(), Failed>
 
 /// Appends an address in its brackets.
 fn write_visited<K: Sink>(sink: &mut K, at: Addr, within: &[Addr]) -> Result<(), Failed>
-    ensures text { Writes (K.held sink.old) (K.held sink.new) result ((codes "[" ++ address at) ++ (within_text within.now ++ codes "]")) }
+    ensures text { Writes (K.held sink.old) (K.held sink.new) result (visited_text at within.now) }
     ensures cause { HasCause (K.faults sink.old) (K.faults sink.new) result }
     ensures place { K.place sink.new ≡ K.place sink.old }
 {
@@ -83,7 +81,7 @@ fn write_visited<K: Sink>(sink: &mut K, at: Addr, within: &[Addr]) -> Result<(),
 }
 
 fn write_visits<K: Sink>(sink: &mut K, times: u32, at: Addr, within: &[Addr]) -> Result<(), Failed>
-    ensures text { Writes (K.held sink.old) (K.held sink.new) result (term_text (Visits times at within.now)) }
+    ensures text { Writes (K.held sink.old) (K.held sink.new) result (visits_text times at within.now) }
     ensures cause { HasCause (K.faults sink.old) (K.faults sink.new) result }
     ensures place { K.place sink.new ≡ K.place sink.old }
 {
@@ -113,7 +111,7 @@ fn write_next_term<K: Sink>(sink: &mut K, term: &Term) -> Result<(), Failed>
 }
 
 fn write_more_terms<K: Sink>(sink: &mut K, terms: &[Term]) -> Result<(), Failed>
-    ensures text { Writes (K.held sink.old) (K.held sink.new) result (separated (codes " + ") term_text terms.now) }
+    ensures text { Writes (K.held sink.old) (K.held sink.new) result (more_terms_text terms.now) }
     ensures cause { HasCause (K.faults sink.old) (K.faults sink.new) result }
     ensures place { K.place sink.new ≡ K.place sink.old }
 {
@@ -138,7 +136,7 @@ fn write_sum<K: Sink>(sink: &mut K, terms: &[Term]) -> Result<(), Failed>
 
 /// Appends the head and the bound of a loop.
 fn write_bound<K: Sink>(sink: &mut K, at: Addr, bound: Option<u32>) -> Result<(), Failed>
-    ensures text { Writes (K.held sink.old) (K.held sink.new) result (codes "loop " ++ address at ++ codes " " ++ bound_text bound) }
+    ensures text { Writes (K.held sink.old) (K.held sink.new) result (bounded_text at bound) }
     ensures cause { HasCause (K.faults sink.old) (K.faults sink.new) result }
     ensures place { K.place sink.new ≡ K.place sink.old }
 {
@@ -187,7 +185,7 @@ fn write_branching<K: Sink>(sink: &mut K, word: &[u8], at: Addr, to: &[Addr]) ->
 }
 
 fn write_checksum<K: Sink>(sink: &mut K, name: &[u8], value: u32) -> Result<(), Failed>
-    ensures text { Writes (K.held sink.old) (K.held sink.new) result (codes "checksum \"" ++ name.now ++ codes "\" " ++ decimal value ++ codes ";") }
+    ensures text { Writes (K.held sink.old) (K.held sink.new) result (checksum_text name.now value) }
     ensures cause { HasCause (K.faults sink.old) (K.faults sink.new) result }
     ensures place { K.place sink.new ≡ K.place sink.old }
 {
@@ -225,7 +223,7 @@ fn write_right<K: Sink>(sink: &mut K, terms: &[Term]) -> Result<(), Failed>
 
 /// Appends the right side of an inequality and the fact's end.
 fn write_last_side<K: Sink>(sink: &mut K, terms: &[Term]) -> Result<(), Failed>
-    ensures text { Writes (K.held sink.old) (K.held sink.new) result ((codes " <= " ++ sum_text terms.now) ++ codes ";") }
+    ensures text { Writes (K.held sink.old) (K.held sink.new) result (last_side_text terms.now) }
     ensures cause { HasCause (K.faults sink.old) (K.faults sink.new) result }
     ensures place { K.place sink.new ≡ K.place sink.old }
 {
@@ -268,7 +266,7 @@ pub fn write_fact<K: Sink>(sink: &mut K, fact: &Fact) -> Result<(), Failed>
 /// The text that `write_fact` appends. `read_one` of it gives the fact, with any image.
 pub fn print_fact(alloc: Global, fact: &Fact) -> Result<Vec<u8>, AllocError>
     ensures text { IfOk result (λ text. text.items ≡ fact_text fact.now) }
-    ensures again { IfOk result (λ text. IsStated fact.now → (names : _) (read : _) → ReadsOne names text.items read → GivesBack fact.now read) }
+    ensures again { IfOk result (λ text. IsStated fact.now → IsReadAs text.items fact.now) }
 {
     let mut sink = MemorySink {
         place: 0,

@@ -1,11 +1,11 @@
 ghost use Rattle.std.specs.Prelude.{◌≡◌, [], ◌∷◌, false, All, IfOk, Ok};
 ghost use Rattle.wc_f4.specs.Taking.{StandsAtEnd};
-ghost use Rattle.wc_f4.specs.Places.{Goes, Shortens, answer, finish, first, start};
-ghost use Rattle.wc_f4.specs.Reading.{GivesBack, ReadsFacts, ReadsOne, map_value, names_of, trouble_of};
+ghost use Rattle.wc_f4.specs.Parts.{AddsFact, Shortens, all_of, one_of};
+ghost use Rattle.wc_f4.specs.Places.{Goes};
+ghost use Rattle.wc_f4.specs.Reading.{GivesAll, ReadsFacts, ReadsOne, map_value, names_of, trouble_of};
 ghost use Rattle.wc_f4.specs.Stated.{IsStated};
-ghost use Rattle.wc_f4.specs.Grammar.{IsWhole, any};
-ghost use Rattle.wc_f4.specs.Tokens.{line_at, placed_tokens, tokens_of};
-ghost use Rattle.wc_f4.specs.Views.{known, left};
+ghost use Rattle.wc_f4.specs.Tokens.{line_at, placed_tokens};
+ghost use Rattle.wc_f4.specs.Views.{ahead, left};
 
 use crate::facts::fact;
 use crate::lookups::Lookup;
@@ -47,7 +47,7 @@ fn next_fact(
     names: &mut Lookup,
 ) -> Result<(), Stop>
     requires { StandsAtEnd false (left reader.old) }
-    ensures read { Goes result (answer (known names.old) start start facts.old.items (left reader.old)) (λ _. answer (known names.new) start start facts.new.items (left reader.new)) }
+    ensures read { AddsFact facts.old facts.new result names.old reader.old names.new reader.new }
     ensures shorter { Shortens result (left reader.old) (left reader.new) }
 {
     let fact = fact(alloc, reader, names)?;
@@ -56,7 +56,7 @@ fn next_fact(
 }
 
 fn all_facts(alloc: Global, reader: &mut Reader, names: &mut Lookup) -> Result<Vec<Fact>, Stop>
-    ensures { Goes result (answer (known names.old) start start [] (left reader.old)) (λ facts. Ok facts.items) }
+    ensures { Goes result (all_of (ahead names.old reader.old)) (λ facts. Ok facts.items) }
 {
     let mut facts = Vec::new(alloc);
     'facts: while !reader.is_at_end() {
@@ -66,7 +66,7 @@ fn all_facts(alloc: Global, reader: &mut Reader, names: &mut Lookup) -> Result<V
 }
 
 fn one_fact(alloc: Global, reader: &mut Reader, names: &mut Lookup) -> Result<Fact, Stop>
-    ensures { Goes result (answer (known names.old) finish first [] (left reader.old)) (λ fact. Ok (fact ∷ [])) }
+    ensures { Goes result (one_of (ahead names.old reader.old)) (λ fact. Ok (fact ∷ [])) }
 {
     let fact = fact(alloc, reader, names)?;
     if reader.is_at_end() {
@@ -77,7 +77,7 @@ fn one_fact(alloc: Global, reader: &mut Reader, names: &mut Lookup) -> Result<Fa
 }
 
 fn facts_of(alloc: Global, text: &[u8], image: &Image) -> Result<Vec<Fact>, Stop>
-    ensures { Goes result (answer (names_of image.now) start start [] (placed_tokens text.now)) (λ facts. Ok facts.items) }
+    ensures { Goes result (all_of (names_of image.now, placed_tokens text.now)) (λ facts. Ok facts.items) }
 {
     let mut reader = Reader::new(text);
     let mut names = Lookup::new(alloc, image);
@@ -85,7 +85,7 @@ fn facts_of(alloc: Global, text: &[u8], image: &Image) -> Result<Vec<Fact>, Stop
 }
 
 fn fact_of(alloc: Global, text: &[u8], image: &Image) -> Result<Fact, Stop>
-    ensures { Goes result (answer (names_of image.now) finish first [] (placed_tokens text.now)) (λ fact. Ok (fact ∷ [])) }
+    ensures { Goes result (one_of (names_of image.now, placed_tokens text.now)) (λ fact. Ok (fact ∷ [])) }
 {
     let mut reader = Reader::new(text);
     let mut names = Lookup::new(alloc, image);
@@ -97,7 +97,7 @@ fn fact_of(alloc: Global, text: &[u8], image: &Image) -> Result<Fact, Stop>
 /// `BadFact`.
 pub fn read_facts(alloc: Global, text: &[u8], image: &Image) -> Result<Vec<Fact>, Trouble>
     ensures read { ReadsFacts (names_of image.now) text.now (map_value (λ facts. facts.items) result) }
-    ensures only { (facts : _) → IsWhole any (names_of image.now) (tokens_of (placed_tokens text.now)) facts → GivesBack facts (map_value (λ v. v.items) result) }
+    ensures only { GivesAll (names_of image.now) text.now (map_value (λ facts. facts.items) result) }
     ensures stated { IfOk result (λ facts. All IsStated facts.items) }
 {
     match facts_of(alloc, text, image) {

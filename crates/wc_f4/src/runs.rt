@@ -1,5 +1,5 @@
 ghost use Rattle.std.specs.Prelude.{◌≡◌, ◌+◌, ◌<◌, ◌≤◌, ◌&&◌, ◌==◌, IfSome, length, slice_index};
-ghost use Rattle.wc_f4.specs.Bytes.{closing_length, digit_value, has_at, is_of, run_length};
+ghost use Rattle.wc_f4.specs.Bytes.{closing_length, has_at, is_of, run_length};
 
 /// A kind of bytes that stand in a row.
 #[derive(Clone, Copy)]
@@ -66,15 +66,4 @@ pub fn closing_length(bytes: &[u8]) -> Option<usize>
         count += 1;
     }
     None
-}
-
-pub fn digit_value(digit: u8) -> u64
-    ensures { result ≡ digit_value digit }
-{
-    match digit {
-        b'0'..=b'9' => (digit - b'0') as u64,
-        b'A'..=b'F' => (digit - b'A' + 10) as u64,
-        b'a'..=b'f' => (digit - b'a' + 10) as u64,
-        _ => 0,
-    }
 }

@@ -1,6 +1,7 @@
 ghost use Rattle.std.specs.Prelude.{◌≤◌, IfOk, length};
-ghost use Rattle.wc_f4.specs.Places.{Reads, ReadsTerm, Shortens, after_one_term, ended, opening, term, times, with_terms};
-ghost use Rattle.wc_f4.specs.Views.{ahead, left};
+ghost use Rattle.wc_f4.specs.Parts.{AddsTerm, Shortens, TakesSum, TakesTerm};
+ghost use Rattle.wc_f4.specs.Places.{opening, term, times};
+ghost use Rattle.wc_f4.specs.Views.{left};
 
 use crate::addresses::{address, within};
 use crate::lookups::Lookup;
@@ -12,7 +13,7 @@ use wc_model::{Sum, Term};
 
 /// Reads the visits of an address in its brackets.
 fn visits(alloc: Global, reader: &mut Reader, names: &mut Lookup, times: u32) -> Result<Term, Stop>
-    ensures read { ReadsTerm (λ side. opening side times) result (ahead names.old reader.old) (ahead names.new reader.new) }
+    ensures read { TakesTerm (λ side. opening side times) result names.old reader.old names.new reader.new }
     ensures shorter { Shortens result (left reader.old) (left reader.new) }
 {
     reader.mark(Mark::Open)?;
@@ -24,7 +25,7 @@ fn visits(alloc: Global, reader: &mut Reader, names: &mut Lookup, times: u32) ->
 
 /// Reads what may stand behind a number in a sum.
 fn times(alloc: Global, reader: &mut Reader, names: &mut Lookup, number: u32) -> Result<Term, Stop>
-    ensures read { ReadsTerm (λ side. times side number) result (ahead names.old reader.old) (ahead names.new reader.new) }
+    ensures read { TakesTerm (λ side. times side number) result names.old reader.old names.new reader.new }
     ensures shorter { IfOk result (λ _. length (left reader.new) ≤ length (left reader.old)) }
 {
     if reader.has_mark(Mark::Star) {
@@ -35,7 +36,7 @@ fn times(alloc: Global, reader: &mut Reader, names: &mut Lookup, number: u32) ->
 }
 
 fn term(alloc: Global, reader: &mut Reader, names: &mut Lookup) -> Result<Term, Stop>
-    ensures read { ReadsTerm term result (ahead names.old reader.old) (ahead names.new reader.new) }
+    ensures read { TakesTerm term result names.old reader.old names.new reader.new }
     ensures shorter { Shortens result (left reader.old) (left reader.new) }
 {
     match reader.any_number() {
@@ -51,8 +52,7 @@ fn next_term(
     reader: &mut Reader,
     names: &mut Lookup,
 ) -> Result<bool, Stop>
-    ensures read { (side : _) → Reads (term (with_terms side terms.old.items)) (after_one_term side terms.new.items) result
-        (ahead names.old reader.old) (ahead names.new reader.new) }
+    ensures read { AddsTerm terms.old terms.new result names.old reader.old names.new reader.new }
     ensures shorter { Shortens result (left reader.old) (left reader.new) }
 {
     let term = term(alloc, reader, names)?;
@@ -62,7 +62,7 @@ fn next_term(
 
 /// Reads terms with `+` between them.
 pub fn sum(alloc: Global, reader: &mut Reader, names: &mut Lookup) -> Result<Sum, Stop>
-    ensures read { (side : _) → Reads (term side) (λ terms. ended (with_terms side terms)) result (ahead names.old reader.old) (ahead names.new reader.new) }
+    ensures read { TakesSum result names.old reader.old names.new reader.new }
     ensures shorter { Shortens result (left reader.old) (left reader.new) }
 {
     let mut terms = Vec::new(alloc);

@@ -4,9 +4,10 @@ use std::test::Fail;
 use wc_base::{Fault, Trouble};
 use wc_model::{Image, Name, Table, Text};
 
-/// An image without code that has the names `f`, at 0x8004, and `top`, at 0xfffffffe.
+/// An image without code that has the names `f`, at 0x8004 and once more elsewhere, `top` at 0xfffffffe, `op` inside
+/// of it, and the Thumb function `ft`.
 fn image(alloc: Global) -> Result<Image, Fail> {
-    let bytes = Vec::from_array(alloc, *b"ftop")?;
+    let bytes = Vec::from_array(alloc, *b"ftopf")?;
     let f = Name {
         offset: 0,
         length: 1,
@@ -19,16 +20,28 @@ fn image(alloc: Global) -> Result<Image, Fail> {
         value: 0xffff_fffe,
         function: false,
     };
+    let op = Name {
+        offset: 2,
+        length: 2,
+        value: 0x8101,
+        function: false,
+    };
     let thumb = Name {
         offset: 0,
         length: 2,
         value: 0x8005,
         function: true,
     };
+    let again = Name {
+        offset: 4,
+        length: 1,
+        value: 0x9000,
+        function: true,
+    };
     Ok(Image {
         bytes: Text::new(bytes),
         ranges: Table::new(Vec::new(alloc)),
-        names: Table::new(Vec::from_array(alloc, [f, top, thumb])?),
+        names: Table::new(Vec::from_array(alloc, [f, top, op, thumb, again])?),
     })
 }
 
@@ -175,11 +188,46 @@ fn names_that_are_not_found_are_refused(rt: HostRuntime) -> Result<(), Fail> {
         ("loop \"nope\" /*", Fault::UnknownLabel(1)),
         ("loop 8 2 in 9,\n\"nope\"", Fault::UnknownLabel(2)),
         ("loop 8 2 in 9\n\"nope\"", Fault::BadFact(2)),
+        ("noreturn \"f\";\nnoreturn \"ft\";", Fault::UnknownLabel(2)),
+        ("noreturn \"f\";\nnoreturn \"o\";", Fault::UnknownLabel(2)),
+        (
+            "noreturn \"f\";\nnoreturn \"tops\";",
+            Fault::UnknownLabel(2),
+        ),
+        ("noreturn \"f\";\nnoreturn \"z\";", Fault::UnknownLabel(2)),
     ];
     let image = image(rt.alloc())?;
     for (text, fault) in table {
         let got = read_facts(rt.alloc(), text.as_bytes(), &image).err();
         assert_eq!(rt; got, Some(Trouble::Fault(fault)), "{text:?}");
+    }
+    Ok(())
+}
+
+/// Each name is that of the first symbol that is called so, whatever was asked for before.
+#[test]
+fn all_names_of_a_text_are_found(rt: HostRuntime) -> Result<(), Fail> {
+    let table = [
+        (
+            "noreturn \"f\"; noreturn \"f\";",
+            "noreturn 0x00008004;noreturn 0x00008004;",
+        ),
+        (
+            "noreturn \"f\"; noreturn \"op\";",
+            "noreturn 0x00008004;noreturn 0x00008101;",
+        ),
+        (
+            "limit [\"op\" in \"top\", \"f\"] <= 2 * [\"top\" - 1];",
+            "limit [0x00008101 in 0xfffffffe, 0x00008004] <= 2 * [0xfffffffd];",
+        ),
+    ];
+    let image = image(rt.alloc())?;
+    for (text, want) in table {
+        let mut got = Vec::new(rt.alloc());
+        for fact in &read_facts(rt.alloc(), text.as_bytes(), &image)? {
+            got.extend_from_slice(&print_fact(rt.alloc(), fact)?)?;
+        }
+        assert_eq!(rt; got.as_slice(), want.as_bytes(), "{text}");
     }
     Ok(())
 }

@@ -1,6 +1,7 @@
 -- What a line of a session's script says, and which command it is.
-use Rattle.std.specs.Prelude.{◌≡◌, ℕ, ◌+◌, ◌-◌, ◌*◌, ◌^◌, ◌<◌, ◌==◌, nat_le, Bool, true, false, not, ◌&&◌, ◌||◌, ◌⊎◌, List, [], ◌∷◌, ◌++◌, length, codes, None, IsSome, Result, Ok, Err}
+use Rattle.std.specs.Prelude.{◌≡◌, ℕ, ◌^◌, ◌<◌, ◌==◌, Bool, true, false, not, ◌||◌, ◌⊎◌, List, ◌++◌, length, codes, None, IsSome, Result, Ok, Err}
 use Rattle.std.specs.List.{list_all}
+use Rattle.wc_base.specs.Decimals.{IsDecimal}
 use Rattle.wc_base.specs.declared.faults.Fault.{Fault}
 use Rattle.wc_base.specs.declared.faults.Fault.TheVariants.{BadCommand, Unbuilt}
 use Rattle.wc_base.specs.declared.faults.UnbuiltWord.TheVariants.{Facts, Icache}
@@ -9,8 +10,8 @@ use Rattle.wc_base.specs.declared.troubles.Trouble.TheVariants.{Fault as Refused
 use Rattle.wc_f4.specs.Reading.{ReadsOne, names_of}
 use Rattle.wc_model.specs.declared.elf_image.Image.{Image}
 use Rattle.wc_model.specs.declared.flow_facts.Fact.{Fact}
-use Rattle.wc_model.specs.declared.flow_facts.Fact.TheVariants.{Checksum}
 use Rattle.wc_model.specs.declared.machine.Hardware.{Hardware}
+use Rattle.wc_model.specs.Workspace.Edits.{is_checksum}
 use Rattle.wc_hw.specs.Reading.{ReadsAs}
 use Rattle.wc_session.specs.declared.commands.Command.{Command}
 use Rattle.wc_session.specs.declared.commands.Command.TheVariants as command
@@ -19,20 +20,9 @@ use Rattle.wc_session.specs.declared.commands.Command.TheVariants as command
 abbrev pub is_blank : ℕ → Bool
 is_blank b = b == 32 || b == 9
 
-abbrev pub is_digit : ℕ → Bool
-is_digit b = nat_le 48 b && nat_le b 57
-
--- the number that decimal digits stand for, behind digits that stand for n
-abbrev pub decimal_value : ℕ → List ℕ → ℕ
-decimal_value n [] = n
-decimal_value n (b ∷ bs) = decimal_value (n * 10 + (b - 48)) bs
-
--- decimal digits, at least one, that state a number below 2^64; zeros may stand at the front
-pub record IsNumber (digits : List ℕ) (number : ℕ) : Type 0 where
-  pub some : 0 < length digits
-  pub all : list_all is_digit digits ≡ true
-  pub value : decimal_value 0 digits ≡ number
-  pub small : number < 2 ^ 64
+-- decimal digits that state a number below 2^64
+abbrev pub IsNumber : List ℕ → ℕ → Type 0
+IsNumber digits number = IsDecimal digits number × (number < 2 ^ 64)
 
 -- a name isn't empty and has no space or tab
 pub record IsName (name : List ℕ) : Type 0 where
@@ -60,10 +50,6 @@ Says line lists = line ≡ codes "list"
 Says line quits = line ≡ codes "quit"
 
 -- No fact but a checksum is analysed yet.
-abbrev pub is_checksum : Fact → Bool
-is_checksum (Checksum name value) = true
-is_checksum _ = false
-
 abbrev pub IsBadFact : Image → List ℕ → Fault → Type 0
 IsBadFact image text (Unbuilt Facts) = (fact : Fact) × ReadsOne (names_of image) text (Ok fact) × (is_checksum fact ≡ false)
 IsBadFact image text fault = ReadsOne (names_of image) text (Err (Refused fault))

@@ -1,13 +1,12 @@
 ghost use Rattle.std.specs.Prelude.{◌≡◌, ◌≢◌, ℕ, not, IfOk, List, ◌++◌, MatchOption};
 ghost use Rattle.std.specs.List.{list_all};
-ghost use Rattle.wc_session.specs.Commands.{is_blank, is_checksum, Reads, ReadsFact, ReadsName, ReadsTiming};
+ghost use Rattle.wc_session.specs.Commands.{is_blank, IsNumber, Reads, ReadsFact, ReadsName, ReadsTiming};
 
-use crate::numbers::read_number;
 use std::alloc::Global;
-use wc_base::{Fault, Trouble, UnbuiltWord};
+use wc_base::{Fault, Trouble, UnbuiltWord, read_decimal};
 use wc_f4::read_one;
 use wc_hw::read_hardware;
-use wc_model::{Fact, Hardware, Image, Text};
+use wc_model::{Fact, Hardware, Image, Text, is_checksum};
 
 /// What a line of a script asks for.
 #[derive(Debug, Drop)]
@@ -61,6 +60,12 @@ fn read_name(alloc: Global, bytes: &[u8]) -> Result<Text, Trouble>
     }
 }
 
+fn read_number(digits: &[u8]) -> Option<u64>
+    ensures { MatchOption result ((number : ℕ) → IsNumber digits.now number → ⊥) (IsNumber digits.now) }
+{
+    read_decimal(digits, u64::MAX)
+}
+
 fn read_timing(alloc: Global, json: &[u8]) -> Result<Hardware, Trouble>
     ensures { ReadsTiming json.now result }
 {
@@ -71,12 +76,6 @@ fn read_timing(alloc: Global, json: &[u8]) -> Result<Hardware, Trouble>
         },
         Err(trouble) => Err(trouble),
     }
-}
-
-fn is_checksum(fact: &Fact) -> bool
-    ensures { result ≡ is_checksum fact.now }
-{
-    matches!(fact, Fact::Checksum { .. })
 }
 
 fn read_fact(alloc: Global, text: &[u8], image: &Image) -> Result<Fact, Trouble>

@@ -9,7 +9,7 @@ use std::sync::{Arc, Wait};
 use std::test::Fail;
 use wc_core::{Core, Given, Job, Work};
 use wc_io::{Lines, MemorySink, MemorySource};
-use wc_model::{Cycles, Describe, Ended, Entry, Fact, Hardware, Image, Kind, Outcome, Part, Table};
+use wc_model::{Describe, Ended, Entry, Fact, Image, Kind, Outcome, Part, Table, default_hardware};
 
 // A work whose bound is the cycles of the class `alu` and one more. The run numbered `failing` finds no memory.
 #[derive(Drop)]
@@ -98,26 +98,6 @@ fn describes(alloc: Global) -> Result<Vec<Describe>, AllocError>
         reads: Table::new(reads),
     })?;
     Ok(list)
-}
-
-fn default_hardware() -> Hardware {
-    Hardware {
-        cycles: Cycles {
-            alu: 1,
-            mul: 1,
-            div: 1,
-            load: 1,
-            store: 1,
-            multi: 1,
-            branch: 1,
-            system: 1,
-            taken: 0,
-            per_register: 0,
-            hit: 0,
-            miss: 0,
-        },
-        cache: None,
-    }
 }
 
 fn works_of(alloc: Global, failing: u64) -> Result<Vec<Adder>, AllocError>

@@ -5,7 +5,8 @@ use Rattle.wc_f4.specs.Places as place
 use Rattle.wc_f4.specs.Places.{answer}
 use Rattle.wc_f4.specs.Tokens.{word}
 use Rattle.wc_f4.specs.Views.{known, left}
-use Rattle.wc_f4.proofs.ParsingLemmas.{behind, by_turn, other_this, passed_on, stopped}
+use Rattle.wc_f4.proofs.ParsingLemmas.{behind, by_turn, passed_on, stopped}
+use Rattle.wc_f4.proofs.SameTokens.{other_this}
 use Rattle.wc_f4.proofs.facts.branching.Goals as goal
 
 pub returns-in_err-at-clause-read : goal.returns-in_err-at-clause-read

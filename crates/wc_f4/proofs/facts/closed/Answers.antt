@@ -1,10 +1,11 @@
-use Rattle.std.proofs.Common.{refl, ◌∙◌}
+use Rattle.std.proofs.Common.{◌∙◌}
 use Rattle.wc_f4.specs.declared.tokens.Mark.TheVariants as sign
 use Rattle.wc_f4.specs.Places as place
 use Rattle.wc_f4.specs.Places.{answer}
 use Rattle.wc_f4.specs.Tokens.{mark}
 use Rattle.wc_f4.specs.Views.{left}
-use Rattle.wc_f4.proofs.ParsingLemmas.{by_turn, other_this, stopped}
+use Rattle.wc_f4.proofs.ParsingLemmas.{by_turn, stopped}
+use Rattle.wc_f4.proofs.SameTokens.{other_this}
 use Rattle.wc_f4.proofs.facts.closed.Goals as goal
 
 pub returns-in_err-mark-clause-read : goal.returns-in_err-mark-clause-read

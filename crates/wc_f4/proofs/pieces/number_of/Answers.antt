@@ -1,20 +1,8 @@
-use Rattle.std.proofs.Common.{◌∙◌, ◌+◌, ◌*◌, sym, ap, arith, drop}
-use Rattle.wc_f4.specs.Bytes.{value_from}
-use Rattle.wc_f4.proofs.RunLemmas.{too_great, all_digits, value_next}
+use Rattle.wc_f4.proofs.RunLemmas.{read_none, read_some}
 use Rattle.wc_f4.proofs.pieces.number_of.Goals as goal
 
-pub returns-then-value : goal.returns-then-value
-returns-then-value c =
-    too_great c.args.base c.loop-digit.value c.args.digits.now c.loop-digit.digit-index c.loop-digit-test.true c.requires.some c.loop-digit.invariant.value
-    (omega (arith, c.digit_value.ensures, c.if-value.true))
+pub returns-in-Some : goal.returns-in-Some
+returns-in-Some c = read_some c.args.base c.args.digits.now c.in-Some.number c.in-Some.ensures.0 c.in-Some.ensures.1
 
-pub loop-digit-preserved : goal.loop-digit-preserved
-loop-digit-preserved c = record {
-  small = c.if-value.false;
-  value = ap (λ d. value_from c.args.base (c.loop-digit.value * c.args.base + d) (drop (c.loop-digit.digit-index + 1) c.args.digits.now)) c.digit_value.ensures
-      ∙ sym (value_next c.args.base c.loop-digit.value c.args.digits.now c.loop-digit.digit-index c.loop-digit-test.true)
-      ∙ c.loop-digit.invariant.value;
-}
-
-pub returns : goal.returns
-returns c = all_digits c.args.base c.loop-digit.value c.args.digits.now c.loop-digit.digit-index c.loop-digit-test.false c.loop-digit.invariant.small c.loop-digit.invariant.value
+pub returns-in-None : goal.returns-in-None
+returns-in-None c = read_none c.args.base c.args.digits.now c.requires.digits c.in-None.ensures

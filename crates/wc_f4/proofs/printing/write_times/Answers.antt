@@ -1,4 +1,4 @@
-use Rattle.std.proofs.Common.{◌≡◌, ◌≢◌, ℕ, ◌==◌, false, true, List, [], ◌++◌, arith, refl, sym, subst}
+use Rattle.std.proofs.Common.{◌≡◌, ◌≢◌, ℕ, ◌==◌, false, List, ◌++◌, arith, refl, sym, subst}
 use Rattle.std.specs.Prelude.{codes, decimal}
 use Rattle.wc_io.specs.Writing.{Writes}
 use Rattle.wc_f4.specs.FactText.{times_text}

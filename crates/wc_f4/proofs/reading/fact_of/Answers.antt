@@ -4,7 +4,7 @@ use Rattle.wc_f4.specs.Places as place
 use Rattle.wc_f4.specs.Places.{answer}
 use Rattle.wc_f4.specs.Reading.{names_of}
 use Rattle.wc_f4.specs.Tokens.{placed_tokens}
-use Rattle.wc_f4.specs.Views.{known, left}
+use Rattle.wc_f4.specs.Views.{known}
 use Rattle.wc_f4.proofs.ParsingLemmas.{behind}
 use Rattle.wc_f4.proofs.reading.fact_of.Goals as goal
 

@@ -5,7 +5,8 @@ use Rattle.wc_f4.specs.Places as place
 use Rattle.wc_f4.specs.Places.{answer}
 use Rattle.wc_f4.specs.Tokens.{mark}
 use Rattle.wc_f4.specs.Views.{known, left}
-use Rattle.wc_f4.proofs.ParsingLemmas.{behind, this_absent, this_read, other_this}
+use Rattle.wc_f4.proofs.ParsingLemmas.{behind, this_absent, this_read}
+use Rattle.wc_f4.proofs.SameTokens.{other_this}
 use Rattle.wc_f4.proofs.sums.times.Goals as goal
 
 pub returns-then-has_mark-clause-read : goal.returns-then-has_mark-clause-read
