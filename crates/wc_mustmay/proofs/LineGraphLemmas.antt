@@ -1,18 +1,21 @@
 -- Each node of a line of nodes lies on a walk from the first one to the exit.
 use Rattle.std.proofs.Common.{ℕ, zero, suc, ◌≡◌, ◌<◌, ◌≤◌, ◌+◌, ◌-◌, ◌*◌, Bool, true, false, if◌then◌else◌, List, [], ◌∷◌, ◌++◌, Option, None, Some, IfSome, All, length, get_or, refl, sym, ap, subst, ◌∙◌, ◌⊎◌, inl, inr, ⊎_elim, arith, length-append}
 use Rattle.std.specs.Prelude.{nat_lt}
-use Rattle.std.specs.List.{AllPairs, Contains}
+use Rattle.std.specs.List.{AllPairs, Contains, slice_get}
 use Rattle.std.proofs.lemmas.Bool.{cases_lt}
 use Rattle.std.proofs.lemmas.Bool.Decides.{nat_tests}
 use Rattle.std.proofs.lemmas.List.{append_assoc, get_or_append_left}
 use Rattle.std.proofs.lemmas.List.Elements.{All-push, All-weaker}
 use Rattle.std.proofs.lemmas.List.Quantifiers.{all_pairs_push}
+use Rattle.std.proofs.lemmas.Option.{none-some, same_Some}
+use Rattle.wc_model.specs.declared.graphs.Context.{Context}
+use Rattle.wc_model.specs.declared.graphs.Graph.{Graph}
 use Rattle.wc_model.specs.declared.graphs.Step.{Step}
-use Rattle.wc_model.specs.Program.Graphs.{LeadsIn}
+use Rattle.wc_model.specs.Program.Graphs.{IsGraph, LeadsIn}
 use Rattle.wc_model.specs.Program.Reaching.{Reaches, Ends, IsLive}
 use Rattle.wc_model.specs.Program.Reaching.Reaches.{here, along}
 use Rattle.wc_model.specs.Program.Reaching.Ends.{exits, onward}
-use Rattle.wc_mustmay.specs.Inner.LineGraphs.{next_of, onward_at, steps_at, IsLine}
+use Rattle.wc_mustmay.specs.Inner.LineGraphs.{next_of, onward_at, steps_at, IsLine, AreOfOneStack}
 
 next_some : (nodes j : ℕ) → j + 1 < nodes → next_of nodes j ≡ Some (j + 1)
 next_some nodes j less = ap (λ (b : Bool). if b then Some (j + 1) else None) (let e : nat_lt (j + 1) nodes ≡ true = grind (arith, nat_tests) in e)
@@ -104,3 +107,23 @@ line_ends nodes steps line (suc m) k is = onward (k + 1) (line_leads nodes steps
 
 pub line_live : (nodes : ℕ) (steps : List Step) → IsLine nodes nodes steps → (k : ℕ) → k < nodes → IsLive (LeadsIn steps) 0 k
 line_live nodes steps line k within = (line_reaches nodes steps line k within, line_ends nodes steps line (nodes - suc k) k (omega arith))
+
+-- the parts of a graph that is such a line, with the empty stack alone
+pub line_graph : (graph : Graph) (empty : Context) (count : ℕ) → empty.parent ≡ None → graph.contexts ≡ empty ∷ [] → AreOfOneStack count graph.nodes → IsLine count count graph.steps → graph.start ≡ 0 → 1 ≤ count → count ≤ 100000 → IsGraph graph
+line_graph graph empty count root contexts nodes line start some few =
+    let at : IsLine (length graph.nodes) (length graph.nodes) graph.steps = subst (λ (n : ℕ). IsLine n n graph.steps) (sym nodes.counted) line in
+    record {
+      few = omega (arith, nodes.counted, few);
+      few_steps = omega (arith, line.few, few);
+      starts = omega (arith, nodes.counted, start, some);
+      sources = at.sources;
+      targets = at.targets;
+      sorted = at.sorted;
+      live = λ k within. subst (λ (n : ℕ). IsLive (LeadsIn graph.steps) n k) (sym start) (line_live (length graph.nodes) graph.steps at k within);
+      placed = subst (λ (xs : List Context). All (λ n. n.context < length xs) graph.nodes) (sym contexts) nodes.placed;
+      parents = λ k c there. alone k c (sym (ap (λ (xs : List Context). slice_get xs k) contexts) ∙ there);
+    }
+  where
+    alone : (k : ℕ) (c : Context) → slice_get (empty ∷ []) k ≡ Some c → IfSome c.parent (λ j. j < k)
+    alone zero c is = subst (λ (x : Option ℕ). IfSome x (λ j. j < 0)) (sym root ∙ ap (λ (d : Context). d.parent) (same_Some empty c is)) tt
+    alone (suc k) c is = absurd (none-some c is)

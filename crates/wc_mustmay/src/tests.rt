@@ -1,7 +1,7 @@
-ghost use Rattle.std.specs.Prelude.{◌≡◌, ◌<◌, ◌++◌, IfOk, IfSome, IsTrue};
+ghost use Rattle.std.specs.Prelude.{◌≡◌, ◌<◌, ◌++◌, IfOk, IfSome, IsTrue, length};
 ghost use Rattle.wc_model.specs.Cache.Ranges.{are_cache_numbers};
 ghost use Rattle.wc_model.specs.Program.Graphs.{IsGraph};
-ghost use Rattle.wc_mustmay.specs.Inner.LineGraphs.{IsLine, steps_at};
+ghost use Rattle.wc_mustmay.specs.Inner.LineGraphs.{AreOfOneStack, IsLine, steps_at};
 
 use crate::{may, must};
 use std::alloc::{AllocError, Global};
@@ -10,19 +10,25 @@ use std::thread::Threads;
 use wc_lines::lines;
 use wc_model::{Cache, Class, Context, Control, Flags, Graph, Insn, Node, StartState, Step, Table};
 
-fn node(pc: u32) -> Node
-    ensures { result.context ≡ 0 }
+// Nodes at these addresses, all of the empty stack.
+fn nodes_of(alloc: Global, pcs: &[u32]) -> Result<Vec<Node>, AllocError>
+    ensures { IfOk result (λ v. AreOfOneStack (length pcs.now) v.items) }
 {
-    Node {
-        context: 0,
-        pc,
-        insn: Insn {
-            class: Class::Alu,
-            moved: 0,
-            control: Control::Next,
-            always: true,
-        },
+    let insn = Insn {
+        class: Class::Alu,
+        moved: 0,
+        control: Control::Next,
+        always: true,
+    };
+    let mut nodes = Vec::new(alloc);
+    for pc in pcs {
+        nodes.push(Node {
+            context: 0,
+            pc: *pc,
+            insn,
+        })?;
     }
+    Ok(nodes)
 }
 
 // Where a node leads beside the next one.
@@ -81,10 +87,9 @@ fn graph_of(alloc: Global, pcs: &[u32], jumps: &[(u32, u32)]) -> Result<Option<G
         callee: 0,
     })?;
     let steps = steps_of(alloc, pcs.len() as u32, jumps)?;
-    let nodes: Vec<Node> = pcs.iter().map(|pc| node(*pc)).collect(alloc)?;
     Ok(Some(Graph {
         contexts: Table::new(contexts),
-        nodes: Table::new(nodes),
+        nodes: Table::new(nodes_of(alloc, pcs)?),
         steps: Table::new(steps),
         start: 0,
     }))

@@ -1,6 +1,11 @@
 -- Graphs of one node after the other, for the tests.
 use Rattle.std.specs.Prelude.{ℕ, ◌≡◌, ◌+◌, ◌*◌, ◌<◌, ◌≤◌, nat_lt, if◌then◌else◌, true, false, List, [], ◌∷◌, Option, None, Some, IfSome, All, AllPairs, Contains, length}
+use Rattle.wc_model.specs.declared.graphs.Node.{Node}
 use Rattle.wc_model.specs.declared.graphs.Step.{Step}
+
+pub record AreOfOneStack (count : ℕ) (nodes : List Node) : Type 0 where
+  pub counted : length nodes ≡ count
+  pub placed : All (λ n. n.context < 1) nodes
 
 abbrev pub next_of : ℕ → ℕ → Option ℕ
 next_of nodes source = if nat_lt (source + 1) nodes then Some (source + 1) else None

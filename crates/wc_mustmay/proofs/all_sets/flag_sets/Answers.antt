@@ -1,4 +1,4 @@
-use Rattle.std.proofs.Common.{◌≡◌, ℕ, ◌≤◌, ◌∙◌, List, Option, length, get_or, sym, subst, ap, arith}
+use Rattle.std.proofs.Common.{ℕ, ◌∙◌, List, Option, get_or, sym, subst, ap, arith}
 use Rattle.wc_model.specs.declared.graphs.LineMap.{LineMap}
 use Rattle.wc_mustmay.specs.Inner.OneSet.{HasSets, own_access}
 use Rattle.wc_mustmay.proofs.FlagLemmas.{more_flags, all_flags, accesses_are, flags_together}

@@ -1,4 +1,3 @@
-use Rattle.std.proofs.Common.{Some, IfSome}
 use Rattle.wc_mustmay.proofs.NameLemmas.{not_found}
 use Rattle.wc_mustmay.proofs.names.name_of.Goals as goal
 

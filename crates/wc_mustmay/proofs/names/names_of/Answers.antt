@@ -1,5 +1,5 @@
-use Rattle.std.proofs.Common.{◌≡◌, ℕ, ◌≤◌, List, Option, None, Some, length, get_or, take, eqb, ap, ◌∙◌, arith}
-use Rattle.std.specs.List.{Contains, dedup, flat_map}
+use Rattle.std.proofs.Common.{◌≡◌, length, take, eqb, ap, ◌∙◌, arith}
+use Rattle.std.specs.List.{dedup, flat_map}
 use Rattle.std.proofs.lemmas.List.{take_all}
 use Rattle.std.proofs.lemmas.List.Filters.{dedup_is}
 use Rattle.std.proofs.lemmas.List.Kept.{Contains-dedup_nat}
