@@ -49,8 +49,8 @@ pub may_flags : (graph : Graph) (ways : ℕ) (own : List (Option ℕ)) (names na
 may_flags graph ways own names names_read named fetched written_named first states read old new rising names_are are_named fetched_is written_is solution solved each empty is count written =
     let called : AreNamed names own named = subst (λ (ns : List ℕ). AreNamed ns own named) names_are are_named in
     let most : IsMostPrecise MayPrecise may_accessed graph.steps named graph.start (no_lines ways) (length graph.nodes) solution =
-        subst (λ (a : Ages). IsMostPrecise MayPrecise may_accessed graph.steps named graph.start a (length graph.nodes) solution) empty
-        (subst (λ (xs : List (Option ℕ)). IsMostPrecise MayPrecise may_accessed graph.steps xs graph.start (may_ages first) (length graph.nodes) solution) fetched_is solved) in
+    subst (λ (a : Ages). IsMostPrecise MayPrecise may_accessed graph.steps named graph.start a (length graph.nodes) solution) empty
+    (subst (λ (xs : List (Option ℕ)). IsMostPrecise MayPrecise may_accessed graph.steps xs graph.start (may_ages first) (length graph.nodes) solution) fetched_is solved) in
     record {
       states = λ p. by_line names (solution p);
       most = most_by_line names rising graph.steps own named graph.start ways called.each (length graph.nodes) solution most;
@@ -73,6 +73,7 @@ own_yes sets s line (Some l) is = test_yes (s == l % sets) l line (λ same. equa
   where
     equal : (n y : ℕ) → (n == y) ≡ true → n ≡ y
     equal n y same = grind (arith, nat_tests)
+
     test_yes : (b : Bool) (l line : ℕ) → (b ≡ true → s ≡ l % sets) → (if b then Some l else None) ≡ Some line → (Some l ≡ Some line) × (s ≡ line % sets)
     test_yes true l line same is = (is, same refl ∙ ap (λ (n : ℕ). n % sets) (same_Some l line is))
     test_yes false l line same is = absurd (none-some line is)
@@ -124,9 +125,9 @@ contains_or [] y = inr (λ among. omega (arith, among.1))
 contains_or (x ∷ xs) y = ⊎_elim
     (λ (same : x ≡ y). inl (0, omega arith, same))
     (λ (other : x ≢ y). ⊎_elim
-        (λ (among : Contains xs y). inl (suc among.0, omega (arith, among.1), among.2))
-        (λ (none : Contains xs y → ⊥). inr (λ among. neither x xs y other none among))
-        (contains_or xs y))
+    (λ (among : Contains xs y). inl (suc among.0, omega (arith, among.1), among.2))
+    (λ (none : Contains xs y → ⊥). inr (λ among. neither x xs y other none among))
+    (contains_or xs y))
     (cases_eq x y)
   where
     neither : (x : ℕ) (xs : List ℕ) (y : ℕ) → x ≢ y → (Contains xs y → ⊥) → Contains (x ∷ xs) y → ⊥
@@ -137,17 +138,17 @@ pub all_flags : (analysis : Analysis) (ways sets : ℕ) (graph : Graph) (access 
     → AreSomeFlags analysis ways sets graph access met i flags → AreAllFlags analysis ways sets graph access flags
 all_flags analysis ways sets graph access met i flags is_graph has all some s = ⊎_elim
     (λ (among : Contains met s).
-        let k : ℕ = among.0 in
-        let at : get_or met k 0 ≡ s = get_or_default met k 0 s among.1 ∙ among.2 in
-        subst (λ (t : ℕ). AreOwnFlags analysis ways graph (own_access sets t access) flags) at (some.done k (omega (arith, among.1, all))))
+    let k : ℕ = among.0 in
+    let at : get_or met k 0 ≡ s = get_or_default met k 0 s among.1 ∙ among.2 in
+    subst (λ (t : ℕ). AreOwnFlags analysis ways graph (own_access sets t access) flags) at (some.done k (omega (arith, among.1, all))))
     (λ (missing : Contains met s → ⊥).
-        let none : (p : ℕ) → get_or (own_access sets s access) p None ≡ None = λ p.
-            own_at sets s access p ∙ own_no sets s (get_or access p None) (λ line is same. missing (subst (Contains met) (sym same) (has p line is))) in
-        record {
-          states = λ _. no_lines ways;
-          most = most_still (precise_of analysis) (accessed_of analysis) (laws_refl analysis) (laws_trans analysis) graph.steps (own_access sets s access) graph.start (no_lines ways) none (length graph.nodes) (λ p within. (is_graph.live p within).0);
-          each = λ p line within at. absurd (none-some line (sym (none p) ∙ at));
-        })
+    let none : (p : ℕ) → get_or (own_access sets s access) p None ≡ None = λ p.
+    own_at sets s access p ∙ own_no sets s (get_or access p None) (λ line is same. missing (subst (Contains met) (sym same) (has p line is))) in
+    record {
+      states = λ _. no_lines ways;
+      most = most_still (precise_of analysis) (accessed_of analysis) (laws_refl analysis) (laws_trans analysis) graph.steps (own_access sets s access) graph.start (no_lines ways) none (length graph.nodes) (λ p within. (is_graph.live p within).0);
+      each = λ p line within at. absurd (none-some line (sym (none p) ∙ at));
+    })
     (contains_or met s)
 
 -- the lines of the graph's nodes
@@ -162,16 +163,17 @@ pub flags_together : (analysis : Analysis) (graph : Graph) (cache : Cache) (acce
     → AreAllFlags analysis cache.ways cache.sets graph access flags → AreFlagsBy analysis graph cache flags
 flags_together analysis graph cache access flags is count all =
     let own : AreAllFlags analysis cache.ways cache.sets graph (accesses graph cache) flags = subst (λ (xs : List (Option ℕ)). AreAllFlags analysis cache.ways cache.sets graph xs flags) is all in
-    let states : ℕ → Sets = λ p s. (own s).states p in
-    (states,
-     most_together (precise_of analysis) (accessed_of analysis) cache.sets graph.steps (accesses graph cache) graph.start (no_line cache.ways) (length graph.nodes) (λ s. (own s).states) (λ s. (own s).most),
-     record {
-       count = count;
-       each = λ p n there.
-           let within : p < length graph.nodes = slice_get_within graph.nodes p n there in
-           let line : ℕ = line_of cache n.pc in
-           let fetches : get_or (accesses graph cache) p None ≡ Some line =
-               get_or-map (λ (m : Node). Some (line_of cache m.pc)) graph.nodes p n None within ∙ ap (λ (m : Node). Some (line_of cache m.pc)) (get_or_from_slice_get graph.nodes p n n there) in
-           let mine : get_or (own_access cache.sets (line % cache.sets) (accesses graph cache)) p None ≡ Some line = own_at cache.sets (line % cache.sets) (accesses graph cache) p ∙ own_mine cache.sets line (get_or (accesses graph cache) p None) fetches in
-           slice_get-get_or flags p false (omega (arith, count, within)) ∙ ap Some ((own (line % cache.sets)).each p line within mine);
-     })
+    let states : ℕ → Sets = λ p s. (own s).states p in (
+      states,
+      most_together (precise_of analysis) (accessed_of analysis) cache.sets graph.steps (accesses graph cache) graph.start (no_line cache.ways) (length graph.nodes) (λ s. (own s).states) (λ s. (own s).most),
+      record {
+        count = count;
+        each = λ p n there.
+            let within : p < length graph.nodes = slice_get_within graph.nodes p n there in
+            let line : ℕ = line_of cache n.pc in
+            let fetches : get_or (accesses graph cache) p None ≡ Some line =
+            get_or-map (λ (m : Node). Some (line_of cache m.pc)) graph.nodes p n None within ∙ ap (λ (m : Node). Some (line_of cache m.pc)) (get_or_from_slice_get graph.nodes p n n there) in
+            let mine : get_or (own_access cache.sets (line % cache.sets) (accesses graph cache)) p None ≡ Some line = own_at cache.sets (line % cache.sets) (accesses graph cache) p ∙ own_mine cache.sets line (get_or (accesses graph cache) p None) fetches in
+            slice_get-get_or flags p false (omega (arith, count, within)) ∙ ap Some ((own (line % cache.sets)).each p line within mine);
+      },
+    )

@@ -80,8 +80,8 @@ line_more nodes count (Some target) old steps inside is line =
     let part = part_push nodes count first (onward_at nodes count) refl (next_inside nodes count) (part_push nodes count old jump refl inside (line_part nodes count old line)) in
     let same : new ≡ old ++ (jump ∷ onward_at nodes count ∷ []) = append_assoc old (jump ∷ []) (onward_at nodes count ∷ []) in
     subst (IsLine nodes (count + 1)) (same ∙ sym is) (part_line nodes count old new line
-        (λ s among. contains_left first (onward_at nodes count ∷ []) s (contains_left old (jump ∷ []) s among))
-        (omega (arith, length-append first (onward_at nodes count ∷ []), length-append old (jump ∷ []))) (contains_last first (onward_at nodes count)) part)
+    (λ s among. contains_left first (onward_at nodes count ∷ []) s (contains_left old (jump ∷ []) s among))
+    (omega (arith, length-append first (onward_at nodes count ∷ []), length-append old (jump ∷ []))) (contains_last first (onward_at nodes count)) part)
 
 pub line_none : (nodes : ℕ) → IsLine nodes 0 []
 line_none nodes = record {

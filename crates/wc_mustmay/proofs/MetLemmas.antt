@@ -33,9 +33,9 @@ mark_more sets access i (Some l) seen new some at is marks =
       marked = λ p line below there. ap (λ (xs : List Bool). get_or xs (line % sets) false) is ∙ ⊎_elim
           (λ (less : p < i). stays seen (l % length seen) (line % sets) within (marks.marked p line less there))
           (λ (more : i ≤ p).
-              let e : i ≡ p = omega arith in
-              let same : l ≡ line = same_Some l line (sym at ∙ ap (λ (n : ℕ). get_or access n None) e ∙ there) in
-              ap (λ (n : ℕ). get_or (set seen (l % length seen) true) n false) (sym (place ∙ ap (λ (n : ℕ). n % sets) same)) ∙ get_or-set_same seen (l % length seen) true false within)
+          let e : i ≡ p = omega arith in
+          let same : l ≡ line = same_Some l line (sym at ∙ ap (λ (n : ℕ). get_or access n None) e ∙ there) in
+          ap (λ (n : ℕ). get_or (set seen (l % length seen) true) n false) (sym (place ∙ ap (λ (n : ℕ). n % sets) same)) ∙ get_or-set_same seen (l % length seen) true false within)
           (cases_lt p i);
     }
 
@@ -48,9 +48,11 @@ sets_more seen i flag met new flag_is is some s below marked = subst (λ (xs : L
   where
     left : (xs ys : List ℕ) (x : ℕ) → Contains xs x → Contains (xs ++ ys) x
     left xs ys x among = (among.0, omega (arith, length-append xs ys, among.1), get_or_append_left xs ys x among.0 among.1 ∙ among.2)
+
     end : (xs : List ℕ) (x : ℕ) → Contains (xs ++ x ∷ []) x
     end [] x = (0, omega arith, refl)
     end (y ∷ xs) x = let h = end xs x in (suc h.0, omega (arith, h.1), h.2)
+
     last : (met : List ℕ) (i s : ℕ) (flag : Bool) → i ≡ s → flag ≡ true → Contains (met ++ (if flag then i ∷ [] else [])) s
     last met i s true e yes_is = subst (λ (n : ℕ). Contains (met ++ i ∷ []) n) e (end met i)
     last met i s false e yes_is = absurd (true≢false (sym yes_is))

@@ -26,9 +26,9 @@ pub apart : (names : List ℕ) → IsStrictlyIncreasing names → (i j : ℕ) �
 apart names rising i j fi fj same = ⊎_elim
     (λ (less : i < j). let e : i + suc (j - suc i) ≡ j = omega arith in absurd (omega (arith, same, rises names rising i (j - suc i) (omega (arith, e)), ap (λ (k : ℕ). get_or names k 0) e)))
     (λ (more : j ≤ i). ⊎_elim
-        (λ (less : j < i). let e : j + suc (i - suc j) ≡ i = omega arith in absurd (omega (arith, same, rises names rising j (i - suc j) (omega (arith, e)), ap (λ (k : ℕ). get_or names k 0) e)))
-        (λ (again : i ≤ j). omega arith)
-        (cases_lt j i))
+    (λ (less : j < i). let e : j + suc (i - suc j) ≡ i = omega arith in absurd (omega (arith, same, rises names rising j (i - suc j) (omega (arith, e)), ap (λ (k : ℕ). get_or names k 0) e)))
+    (λ (again : i ≤ j). omega arith)
+    (cases_lt j i))
     (cases_lt i j)
 
 -- The place of a line among the names, and their number where it has none.
@@ -81,7 +81,7 @@ aged_by_line : (names : List ℕ) → IsStrictlyIncreasing names → (limit : �
 aged_by_line names rising limit f l k y within is =
     let at : place names l ≡ k = place_at names rising k l within is in
     let same : (y == l) ≡ (place names y == k) = tests_alike y l (place names y) k (λ (e : y ≡ l). ap (place names) e ∙ at)
-        (λ (e : place names y ≡ k). sym (place_back names y) ∙ ap (λ (n : ℕ). get_or names n y) e ∙ get_or_default names k y 0 within ∙ is) in
+    (λ (e : place names y ≡ k). sym (place_back names y) ∙ ap (λ (n : ℕ). get_or names n y) e ∙ get_or_default names k y 0 within ∙ is) in
     ap (λ (b : Bool). if b then 0 else (if nat_lt (f (place names y)) limit then f (place names y) + 1 else f (place names y))) same
 
 at_line : (limit : ℕ) (f : ℕ → ℕ) (l y : ℕ) → y ≡ l → aged limit f l y ≡ 0
@@ -147,11 +147,13 @@ module _ (names : List ℕ) (rising : IsStrictlyIncreasing names) (steps : List 
   fetch_line (Some l) name a b is less =
       let k : ℕ = is.0 in
       let after : MayPrecise (may_accessed a k) b = subst (λ (n : Option ℕ). MayPrecise (fetched MayPrecise may_accessed n a) b) is.1 less in
-      let limit : min (a.age (place names l) + 1) a.ways ≡ min (a.age k + 1) a.ways = ap (λ (n : ℕ). min (a.age n + 1) a.ways) (place_at names rising k l is.2 is.3) in
-      (after.0, λ y.
-          let same : aged (min (a.age (place names l) + 1) a.ways) (λ z. a.age (place names z)) l y ≡ aged (min (a.age k + 1) a.ways) a.age k (place names y) =
-              ap (λ (n : ℕ). aged n (λ z. a.age (place names z)) l y) limit ∙ aged_by_line names rising (min (a.age k + 1) a.ways) a.age l k y is.2 is.3 in
-          omega (arith, after.1 (place names y), same))
+      let limit : min (a.age (place names l) + 1) a.ways ≡ min (a.age k + 1) a.ways = ap (λ (n : ℕ). min (a.age n + 1) a.ways) (place_at names rising k l is.2 is.3) in (
+        after.0,
+        λ y.
+            let same : aged (min (a.age (place names l) + 1) a.ways) (λ z. a.age (place names z)) l y ≡ aged (min (a.age k + 1) a.ways) a.age k (place names y) =
+            ap (λ (n : ℕ). aged n (λ z. a.age (place names z)) l y) limit ∙ aged_by_line names rising (min (a.age k + 1) a.ways) a.age l k y is.2 is.3 in
+            omega (arith, after.1 (place names y), same),
+      )
 
   fetch_name : (d : ℕ) (x name : Option ℕ) (a b : Ages) → IsName names x name → MayPrecise (fetched MayPrecise may_accessed x a) b → MayPrecise (fetched MayPrecise may_accessed name (by_name names d a)) (by_name names d b)
   fetch_name d None name a b is less =
@@ -160,11 +162,13 @@ module _ (names : List ℕ) (rising : IsStrictlyIncreasing names) (steps : List 
       let k : ℕ = is.0 in
       let at : get_or names k d ≡ l = get_or_default names k d 0 is.2 ∙ is.3 in
       let limit : min (a.age l + 1) a.ways ≡ min (a.age (get_or names k d) + 1) a.ways = ap (λ (n : ℕ). min (a.age n + 1) a.ways) (sym at) in
-      subst (λ (n : Option ℕ). MayPrecise (fetched MayPrecise may_accessed n (by_name names d a)) (by_name names d b)) (sym is.1)
-      (less.0, λ j.
-          let below = aged_by_name (min (a.age l + 1) a.ways) a.age (λ z. get_or names z d) l k j at in
-          let same : aged (min (a.age l + 1) a.ways) (λ z. a.age (get_or names z d)) k j ≡ aged (min (a.age (get_or names k d) + 1) a.ways) (λ z. a.age (get_or names z d)) k j = ap (λ (n : ℕ). aged n (λ z. a.age (get_or names z d)) k j) limit in
-          omega (arith, less.1 (get_or names j d), below, same))
+      subst (λ (n : Option ℕ). MayPrecise (fetched MayPrecise may_accessed n (by_name names d a)) (by_name names d b)) (sym is.1) (
+        less.0,
+        λ j.
+            let below = aged_by_name (min (a.age l + 1) a.ways) a.age (λ z. get_or names z d) l k j at in
+            let same : aged (min (a.age l + 1) a.ways) (λ z. a.age (get_or names z d)) k j ≡ aged (min (a.age (get_or names k d) + 1) a.ways) (λ z. a.age (get_or names z d)) k j = ap (λ (n : ℕ). aged n (λ z. a.age (get_or names z d)) k j) limit in
+            omega (arith, less.1 (get_or names j d), below, same),
+      )
 
   solves_by_name : (d : ℕ) (other : ℕ → Ages) → IsSolution MayPrecise may_accessed steps own start (no_lines ways) other → IsSolution MayPrecise may_accessed steps named start (no_lines ways) (λ p. by_name names d (other p))
   solves_by_name d other solves = record {

@@ -41,7 +41,11 @@ fn name_of(names: &[u32], line: Option<u32>) -> Option<u32>
 }
 
 /// Per node the name of its line.
-pub fn named(alloc: Global, own: &[Option<u32>], names: &[u32]) -> Result<Vec<Option<u32>>, AllocError>
+pub fn named(
+    alloc: Global,
+    own: &[Option<u32>],
+    names: &[u32],
+) -> Result<Vec<Option<u32>>, AllocError>
     requires names { AreNames own.now names.now }
     requires few { length names.now < 2 ^ 32 }
     ensures named { IfOk result (λ v. AreNamed names.now own.now v.items) }

@@ -43,7 +43,12 @@ fn jump_of(jumps: &[(u32, u32)], node: u32, nodes: u32) -> Option<u32>
     None
 }
 
-fn add_steps(steps: &mut Vec<Step>, source: u32, jump: Option<u32>, nodes: u32) -> Result<(), AllocError>
+fn add_steps(
+    steps: &mut Vec<Step>,
+    source: u32,
+    jump: Option<u32>,
+    nodes: u32,
+) -> Result<(), AllocError>
     requires { source < nodes }
     ensures { IfOk result (λ _. steps.new.items ≡ steps.old.items ++ steps_at nodes source jump) }
 {
@@ -54,7 +59,11 @@ fn add_steps(steps: &mut Vec<Step>, source: u32, jump: Option<u32>, nodes: u32) 
             taken: true,
         })?;
     }
-    let next = if source + 1 < nodes { Some(source + 1) } else { None };
+    let next = if source + 1 < nodes {
+        Some(source + 1)
+    } else {
+        None
+    };
     steps.push(Step {
         source,
         target: next,
@@ -137,14 +146,26 @@ fn small_programs(rt: HostRuntime) -> Result<(), Fail> {
     // a loop on one line
     let (pcs, jumps) = ([0x8000, 0x8004, 0x8008, 0x800C], [(2, 1)]);
     let any = cache(1, 2, 16, StartState::Any);
-    assert_eq!(rt; digits(&rt, alloc, &pcs, &jumps, Some(&any))?.as_str(), "0111 1111");
+    assert_eq!(rt;
+        digits(&rt, alloc, &pcs, &jumps, Some(&any))?.as_str(),
+        "0111 1111"
+    );
     let empty = cache(1, 2, 16, StartState::Empty);
-    assert_eq!(rt; digits(&rt, alloc, &pcs, &jumps, Some(&empty))?.as_str(), "0111 0111");
+    assert_eq!(rt;
+        digits(&rt, alloc, &pcs, &jumps, Some(&empty))?.as_str(),
+        "0111 0111"
+    );
     assert_eq!(rt; digits(&rt, alloc, &pcs, &jumps, None)?.as_str(), " ");
-    assert_eq!(rt; digits(&rt, alloc, &[0x8000, 0x8004], &[], Some(&any))?.as_str(), "01 11");
+    assert_eq!(rt;
+        digits(&rt, alloc, &[0x8000, 0x8004], &[], Some(&any))?.as_str(),
+        "01 11"
+    );
     // a line that is fetched on one branch only
     let pcs = [0x8000, 0x8010, 0x8010, 0x8014];
-    assert_eq!(rt; digits(&rt, alloc, &pcs, &[(0, 2)], Some(&empty))?.as_str(), "0001 0011");
+    assert_eq!(rt;
+        digits(&rt, alloc, &pcs, &[(0, 2)], Some(&empty))?.as_str(),
+        "0001 0011"
+    );
     // a switch past a call of a loop on another line, which the last node shares
     let pcs = [
         0x8000, 0x8004, 0x8008, 0x800C, 0x801C, 0x802C, 0x8030, 0x8034, 0x8038, 0x8020, 0x8024,
@@ -162,21 +183,36 @@ fn ways_and_sets(rt: HostRuntime) -> Result<(), Fail> {
     let alloc = rt.alloc();
     let one = cache(1, 1, 16, StartState::Empty);
     let pcs = [0x8000, 0x8004, 0x8010, 0x8000];
-    assert_eq!(rt; digits(&rt, alloc, &pcs, &[], Some(&one))?.as_str(), "0100 0100");
+    assert_eq!(rt;
+        digits(&rt, alloc, &pcs, &[], Some(&one))?.as_str(),
+        "0100 0100"
+    );
     let two = cache(1, 2, 16, StartState::Empty);
     let pcs = [0x8000, 0x8010, 0x8000, 0x8020, 0x8000, 0x8010];
-    assert_eq!(rt; digits(&rt, alloc, &pcs, &[], Some(&two))?.as_str(), "001010 001010");
+    assert_eq!(rt;
+        digits(&rt, alloc, &pcs, &[], Some(&two))?.as_str(),
+        "001010 001010"
+    );
     // a loop that fills the cache, and one that is larger
     let eight = cache(1, 8, 16, StartState::Empty);
     let pcs = [0x00, 0x10, 0x20, 0x30, 0x40, 0x50, 0x60, 0x70];
-    assert_eq!(rt; digits(&rt, alloc, &pcs, &[(7, 0)], Some(&eight))?.as_str(), "00000000 11111111");
+    assert_eq!(rt;
+        digits(&rt, alloc, &pcs, &[(7, 0)], Some(&eight))?.as_str(),
+        "00000000 11111111"
+    );
     let pcs = [0x00, 0x10, 0x20, 0x30, 0x40, 0x50, 0x60, 0x70, 0x80];
-    assert_eq!(rt; digits(&rt, alloc, &pcs, &[(8, 0)], Some(&eight))?.as_str(), "000000000 000000000");
+    assert_eq!(rt;
+        digits(&rt, alloc, &pcs, &[(8, 0)], Some(&eight))?.as_str(),
+        "000000000 000000000"
+    );
     // three sets of 512, the first with two lines
     let many = cache(512, 1, 16, StartState::Empty);
     let pcs = [
         0x8000, 0x8010, 0x9FF0, 0x8004, 0x8014, 0x9FF4, 0xA000, 0x8008,
     ];
-    assert_eq!(rt; digits(&rt, alloc, &pcs, &[], Some(&many))?.as_str(), "00011100 00011100");
+    assert_eq!(rt;
+        digits(&rt, alloc, &pcs, &[], Some(&many))?.as_str(),
+        "00011100 00011100"
+    );
     Ok(())
 }

@@ -25,6 +25,6 @@ returns g c =
     let flags = c.loop-set.flags.items in
     let is = c.in_ok-access.ensures ∙ accesses_are graph c.args.cache.now c.items.result.now (c.items.ensures ∙ ap (λ (m : LineMap). m.line) c.requires.map) in
     let has : HasSets sets access met =
-        subst (HasSets sets access) (sym c.deref-set-items.ensures.value) (subst (λ (xs : List (Option ℕ)). HasSets sets xs c.in_ok-met.met.items) c.deref.ensures.value c.in_ok-met.ensures) in
+    subst (HasSets sets access) (sym c.deref-set-items.ensures.value) (subst (λ (xs : List (Option ℕ)). HasSets sets xs c.in_ok-met.met.items) c.deref.ensures.value c.in_ok-met.ensures) in
     flags_together c.args.analysis graph c.args.cache.now access flags is c.loop-set.invariant.count
     (all_flags c.args.analysis ways sets graph access met i flags c.requires.graph has (omega (arith, c.loop-set-test.false)) c.loop-set.invariant)

@@ -6,7 +6,7 @@ use Rattle.wc_mustmay.proofs.LineGraphLemmas.{line_graph}
 use Rattle.wc_mustmay.proofs.tests.graph_of.Goals as goal
 
 some_there : (b : Bool) (n : ℕ) → b ≡ false → b ≡ (n == 0) → 1 ≤ n
-some_there b n no is = grind (arith, nat_tests)
+some_there b n empty_not is = grind (arith, nat_tests)
 
 pub returns : goal.returns
 returns c =
