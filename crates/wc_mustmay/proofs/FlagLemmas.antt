@@ -1,7 +1,7 @@
 -- The flags that are written are those of the most precise solution.
-use Rattle.std.proofs.Common.{ℕ, zero, suc, ◌≡◌, ◌≢◌, ◌<◌, ◌≤◌, ◌+◌, ◌%◌, ◌==◌, ◌⊎◌, inl, inr, ⊎_elim, Bool, true, false, if◌then◌else◌, List, [], ◌∷◌, Option, None, Some, IfSome, All, length, get_or, map, refl, sym, ap, subst, ◌∙◌, arith}
+use Rattle.std.proofs.Common.{ℕ, zero, suc, ◌≡◌, ◌≢◌, ◌<◌, ◌≤◌, ◌+◌, ◌%◌, ◌==◌, ◌⊎◌, inl, inr, ⊎_elim, Bool, true, false, if◌then◌else◌, List, [], ◌∷◌, Option, None, Some, length, get_or, map, refl, sym, ap, subst, ◌∙◌, arith}
 use Rattle.std.specs.Prelude.{nat_lt}
-use Rattle.std.specs.List.{Contains, slice_get}
+use Rattle.std.specs.List.{Contains}
 use Rattle.std.specs.List.Sorted.{IsStrictlyIncreasing}
 use Rattle.std.proofs.lemmas.Bool.{cases_eq, cases_lt}
 use Rattle.std.proofs.lemmas.Bool.Decides.{nat_tests}
@@ -11,7 +11,7 @@ use Rattle.wc_ages.specs.States.{MustHeld, MayHeld, must_ages, may_ages, holds_l
 use Rattle.wc_model.specs.declared.graphs.Graph.{Graph}
 use Rattle.wc_model.specs.declared.graphs.Node.{Node}
 use Rattle.wc_model.specs.declared.machine.Cache.{Cache}
-use Rattle.wc_model.specs.Cache.Ages.{Ages, Sets, IsMostPrecise, MustPrecise, MayPrecise, must_accessed, may_accessed, no_line, no_lines, accesses, AreFlagsOf}
+use Rattle.wc_model.specs.Cache.Ages.{Ages, Sets, IsMostPrecise, MustPrecise, MayPrecise, must_accessed, may_accessed, no_line, no_lines, accesses}
 use Rattle.wc_model.specs.Cache.Lines.{line_of}
 use Rattle.wc_model.specs.Program.Graphs.{IsGraph}
 use Rattle.wc_mustmay.specs.declared.one_set.Analysis.{Analysis}

@@ -1,17 +1,17 @@
 -- A solution over names is one over the lines that they name.
-use Rattle.std.proofs.Common.{ℕ, zero, suc, ◌≡◌, ◌≢◌, ◌<◌, ◌≤◌, ◌+◌, ◌-◌, ◌==◌, ◌⊎◌, inl, inr, ⊎_elim, min, Bool, true, false, if◌then◌else◌, List, [], ◌∷◌, ◌++◌, Option, None, Some, Ok, Err, IfSome, All, length, get_or, take, refl, sym, ap, subst, ◌∙◌, arith, length-append}
+use Rattle.std.proofs.Common.{ℕ, zero, suc, ◌≡◌, ◌≢◌, ◌<◌, ◌≤◌, ◌+◌, ◌-◌, ◌==◌, ⊎_elim, min, Bool, true, false, if◌then◌else◌, List, [], ◌∷◌, ◌++◌, Option, None, Some, Err, length, get_or, refl, sym, ap, subst, ◌∙◌, arith, length-append}
 use Rattle.std.specs.Prelude.{nat_lt}
-use Rattle.std.specs.List.{Contains, flat_map, dedup}
+use Rattle.std.specs.List.{Contains, flat_map}
 use Rattle.std.specs.List.Sorted.{IsStrictlyIncreasing, IsBinarySearchResult}
 use Rattle.std.specs.Ordering.{nat_cmp}
 use Rattle.std.proofs.lemmas.Bool.{cases_eq, cases_lt}
 use Rattle.std.proofs.lemmas.Bool.Decides.{nat_tests}
-use Rattle.std.proofs.lemmas.List.{get_or_past, get_or_default}
+use Rattle.std.proofs.lemmas.List.{get_or_default}
 use Rattle.std.proofs.lemmas.List.Sorted.{searched}
 use Rattle.std.proofs.lemmas.Option.{none-some, same_Some}
 use Rattle.wc_model.specs.declared.graphs.Step.{Step}
 use Rattle.wc_model.specs.Cache.Ages.{Ages, IsSolution, IsMostPrecise, MayPrecise, may_accessed, aged, fetched, no_lines}
-use Rattle.wc_mustmay.specs.Inner.Names.{lines_in, AreNames, AreNamed, IsName}
+use Rattle.wc_mustmay.specs.Inner.Names.{lines_in, IsName}
 
 -- Rising numbers are apart.
 pub rises : (names : List ℕ) → IsStrictlyIncreasing names → (i n : ℕ) → i + suc n < length names → get_or names i 0 < get_or names (i + suc n) 0

@@ -1,20 +1,16 @@
 -- The solution over all sets is one of each set.
-use Rattle.std.proofs.Common.{ℕ, ◌≡◌, ◌≢◌, ◌<◌, ◌≤◌, ◌+◌, ◌%◌, ◌==◌, ◌⊎◌, inl, inr, ⊎_elim, Bool, true, false, if◌then◌else◌, List, Option, None, Some, IfSome, All, length, get_or, map, refl, sym, ap, subst, ◌∙◌, arith}
-use Rattle.std.specs.List.{Contains}
-use Rattle.std.proofs.lemmas.Bool.{cases_eq, cases_lt}
-use Rattle.std.proofs.lemmas.Bool.Decides.{nat_tests}
+use Rattle.std.proofs.Common.{ℕ, ◌≡◌, ◌<◌, ◌≤◌, ◌%◌, ◌==◌, ⊎_elim, Bool, true, false, if◌then◌else◌, List, Option, None, Some, length, get_or, refl, sym, ap, subst, ◌∙◌, arith}
+use Rattle.std.proofs.lemmas.Bool.{cases_lt}
 use Rattle.std.proofs.lemmas.List.{get_or-map, get_or_past, length-map}
-use Rattle.std.proofs.lemmas.Option.{none-some, same_Some}
-use Rattle.wc_model.specs.declared.graphs.Graph.{Graph}
 use Rattle.wc_model.specs.declared.graphs.Step.{Step}
-use Rattle.wc_model.specs.Cache.Ages.{Ages, Sets, IsSolution, IsMostPrecise, MustPrecise, MayPrecise, must_accessed, may_accessed, fetched, everywhere, accessed_in, no_lines, no_line}
+use Rattle.wc_model.specs.Cache.Ages.{Ages, Sets, IsSolution, IsMostPrecise, fetched, everywhere, accessed_in}
 use Rattle.wc_model.specs.Program.Graphs.{LeadsIn}
 use Rattle.wc_model.specs.Program.Reaching.{Reaches}
 use Rattle.wc_model.specs.Program.Reaching.Reaches.{here, along}
 use Rattle.wc_ages.specs.AgeLaws.{must_refl, must_trans, may_refl, may_trans}
 use Rattle.wc_mustmay.specs.declared.one_set.Analysis.{Analysis}
 use Rattle.wc_mustmay.specs.declared.one_set.Analysis.TheVariants.{Must, May}
-use Rattle.wc_mustmay.specs.Inner.OneSet.{of_set, own_access, precise_of, accessed_of}
+use Rattle.wc_mustmay.specs.Inner.OneSet.{of_set, own_access, precise_of}
 
 pub laws_refl : (analysis : Analysis) (a : Ages) → precise_of analysis a a
 laws_refl Must a = must_refl a
