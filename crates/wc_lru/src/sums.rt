@@ -1,8 +1,7 @@
-ghost use Rattle.std.specs.Prelude.{◌≡◌, ◌+◌, ◌≤◌, ◌<◌, ◌*◌, ◌^◌, All, length, slice_get};
+ghost use Rattle.std.specs.Prelude.{◌≡◌, ◌<◌, ◌^◌, All, length};
 ghost use Rattle.std.specs.Option.{option_map};
-ghost use Rattle.wc_model.specs.Cache.Lru.{cache_fetched, is_hit};
-ghost use Rattle.wc_model.specs.Cache.Timing.{AreCyclesOf, cached_cycles, fetch_cycles, pc_at, timed_step, uncached_cycles};
-ghost use Rattle.wc_lru.specs.Filled.{cache_in, held_by, held_in};
+ghost use Rattle.wc_model.specs.Cache.Timing.{fetch_cycles, pc_at, timed_step, uncached_cycles};
+ghost use Rattle.wc_lru.specs.Filled.{AreCyclesFrom, fetched_from, held_in, step_from, steps_from};
 ghost use Rattle.wc_lru.specs.Inner.Places.{timed_at};
 
 use crate::Lru;
@@ -14,7 +13,7 @@ use wc_model::{Cycles, Graph, Step};
 /// there is no cache. `None` exactly where the steps don't lead from the graph's start to its exit.
 pub fn cycles(graph: &Graph, path: &[u32], cycles: &Cycles, lru: Option<&mut Lru>) -> Option<u128>
     requires { All (λ s. s.source < length graph.now.nodes) graph.now.steps }
-    ensures { AreCyclesOf graph.now path.now (cache_in (option_map (λ l. l.now) lru.entry)) cycles.now (held_by (option_map (λ l. l.now) lru.entry)) result }
+    ensures { AreCyclesFrom graph.now path.now cycles.now (option_map (λ l. l.now) lru.entry) result }
 {
     if !is_path(graph, path) {
         return None;
@@ -27,7 +26,7 @@ pub fn cycles(graph: &Graph, path: &[u32], cycles: &Cycles, lru: Option<&mut Lru
 
 fn cached_cycles(graph: &Graph, path: &[u32], cycles: &Cycles, lru: &mut Lru) -> u128
     requires { All (λ s. s.source < length graph.now.nodes) graph.now.steps }
-    ensures { result ≡ cached_cycles lru.old.cache cycles.now (held_in lru.old) (timed_at graph.now cycles.now path.now) }
+    ensures { result ≡ steps_from lru.old cycles.now (timed_at graph.now cycles.now path.now) }
 {
     let mut sum = 0;
     for place in path {
@@ -41,10 +40,10 @@ fn cached_cycles(graph: &Graph, path: &[u32], cycles: &Cycles, lru: &mut Lru) ->
 // One step: what it costs beside its fetch, and the fetch.
 fn step_cycles(graph: &Graph, cycles: &Cycles, step: &Step, lru: &mut Lru) -> u64
     requires { step.now.source < length graph.now.nodes }
-    ensures value { result ≡ (timed_step graph.now cycles.now step.now).base + fetch_cycles cycles.now (is_hit lru.old.cache (pc_at graph.now step.now.source) (held_in lru.old)) }
+    ensures value { result ≡ step_from lru.old cycles.now (timed_step graph.now cycles.now step.now) }
     ensures small { result < 2 ^ 33 }
     ensures cache { lru.new.cache ≡ lru.old.cache }
-    ensures held { held_in lru.new ≡ cache_fetched lru.old.cache (pc_at graph.now step.now.source) (held_in lru.old) }
+    ensures held { held_in lru.new ≡ fetched_from lru.old (pc_at graph.now step.now.source) }
 {
     let base = base_cycles(graph, cycles, step);
     let hit = lru.fetch(graph.nodes.items()[step.source as usize].pc);

@@ -1,0 +1,3 @@
+pub mod LineGraphs
+pub mod Names
+pub mod OneSet
