@@ -1,0 +1,35 @@
+ghost use Rattle.std.specs.Prelude.{◌≡◌, ◌≤◌, ℕ, Bool, IfOk, List, length};
+ghost use Rattle.wc_graph.specs.Inner.Codes.{AreFrames};
+ghost use Rattle.wc_graph.specs.Inner.Families.{IsFamily};
+ghost use Rattle.wc_graph.specs.Inner.Walks.{IsListed, IsWalkable};
+
+use crate::families::falling;
+use crate::frames::Frame;
+use crate::sources::Sources;
+use std::alloc::{AllocError, Global};
+
+/// The live frames in the order of their stacks: a frame, and then those that stand on it, one after the other.
+pub fn listed(
+    alloc: Global,
+    frames: &[Frame],
+    live: &[bool],
+    kids: &Sources,
+) -> Result<Vec<u32>, AllocError>
+    requires frames { AreFrames frames.now }
+    requires few { length frames.now ≤ 100000 }
+    requires kids { IsFamily frames.now live.now (length frames.now) kids.now }
+    ensures { IfOk result (λ v. (entry : ℕ) → IsWalkable entry frames.now live.now → IsListed entry frames.now live.now v.items) }
+{
+    let mut listed = Vec::new(alloc);
+    let mut work = Vec::new(alloc);
+    work.push(0u32)?;
+    for _ in 0..frames.len() {
+        let Some(frame) = work.pop() else {
+            break;
+        };
+        listed.push(frame)?;
+        let children = falling(alloc, frames, kids.into[frame as usize].as_slice())?;
+        work.extend_from_slice(children.as_slice())?;
+    }
+    Ok(listed)
+}

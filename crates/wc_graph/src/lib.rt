@@ -1,0 +1,20 @@
+//! The control-flow graph of a function with its calls expanded: each call string has its own copy of the
+//! function that it calls. Call strings after Sharir and Pnueli 1981; branches, calls and returns after the ARM
+//! Architecture Reference Manual.
+#![tactic(auto)]
+
+mod code;
+mod families;
+mod faults;
+mod frames;
+mod interned;
+mod inverse;
+mod live;
+mod opened;
+mod search;
+mod sources;
+mod stated;
+mod survey;
+mod turns;
+mod walk;
+mod ways;
