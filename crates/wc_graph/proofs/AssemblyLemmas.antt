@@ -26,7 +26,7 @@ use Rattle.wc_graph.specs.Inner.Walks.{IsListed, IsWalkable}
 use Rattle.wc_graph.proofs.ReachLemmas.{has_get}
 use Rattle.wc_graph.proofs.WalkLemmas.{zip_append}
 
-get_map : {X Y : Type 0} (f : X → Y) (xs : List X) (i : ℕ) (x : X) → slice_get xs i ≡ Some x → slice_get (map f xs) i ≡ Some (f x)
+pub get_map : {X Y : Type 0} (f : X → Y) (xs : List X) (i : ℕ) (x : X) → slice_get xs i ≡ Some x → slice_get (map f xs) i ≡ Some (f x)
 get_map f [] i x at = absurd (none-some x at)
 get_map f (y ∷ xs) zero x at = ap Some (ap f (same_Some y x at))
 get_map f (y ∷ xs) (suc i) x at = get_map f xs i x at
@@ -44,7 +44,7 @@ module _ (entry : ℕ) (frames : List Frame) (live : List Bool) (walkable : IsWa
       let at = has_get listed k (listed_is.all k live_k) in
       (at.0, at.1, rank_is ranks k at.0 (placed.there once at.0 k (slice_get_within listed at.0 k at.1) at.1))
 
-  context_is : (i k : ℕ) (f : Frame) → slice_get listed i ≡ Some k → slice_get frames k ≡ Some f → slice_get contexts i ≡ Some (record { parent = option_and_then (rank_at ranks) f.parent; returns = f.returns; callee = f.callee })
+  pub context_is : (i k : ℕ) (f : Frame) → slice_get listed i ≡ Some k → slice_get frames k ≡ Some f → slice_get contexts i ≡ Some (record { parent = option_and_then (rank_at ranks) f.parent; returns = f.returns; callee = f.callee })
   context_is i k f at_i at_k =
       let same : frame_at frames k ≡ f = get_or_from_slice_get frames k f (record { parent = None; returns = 0; callee = 0 }) at_k in
       get_map (context_of frames ranks) listed i k at_i ∙ ap (λ (g : Frame). Some (record { parent = option_and_then (rank_at ranks) g.parent; returns = g.returns; callee = g.callee })) same

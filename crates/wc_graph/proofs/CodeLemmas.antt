@@ -149,7 +149,7 @@ module _ (steps : Position → List Step) (entry : ℕ) (old_frames new_frames :
   zip_now target has = zip_so (IsAt entry old_frames) (IsAt entry new_frames) (at_kept entry old_frames new_frames has.stays) old_places ps found.placed
 
   same_found : (target : Option ℕ) → HasTargetOf old_frames new_frames old_places new_places place way target → new_places ≡ old_places → IsFound steps entry new_frames new_places ps
-  same_found target has same = record { placed = subst (λ (xs : List Place). AllZip (IsAt entry new_frames) xs ps) (sym same) (zip_now target has); first = found.first; reached = found.reached }
+  same_found target has same = record { placed = subst (λ (xs : List Place). AllZip (IsAt entry new_frames) xs ps) (sym same) (zip_now target has); rooted = stack_kept entry old_frames new_frames has.stays 0 [] found.rooted; first = found.first; reached = found.reached }
 
   pub found_more : (target : Option ℕ) → HasTargetOf old_frames new_frames old_places new_places place way target → IsFurther steps entry new_frames new_places ps target s.target
   found_more None has =
@@ -178,6 +178,7 @@ module _ (steps : Position → List Step) (entry : ℕ) (old_frames new_frames :
         stays = get_left ps (q ∷ []);
         found = record {
           placed = subst (λ (xs : List Place). AllZip (IsAt entry new_frames) xs (ps ++ q ∷ [])) (sym grown.2) (zip_push (IsAt entry new_frames) old_places ps x q (zip_now (Some k) has) (subst (λ (y : Place). IsAt entry new_frames y q) (sym one) lead.4));
+          rooted = stack_kept entry old_frames new_frames has.stays 0 [] found.rooted;
           first = get_left ps (q ∷ []) 0 (start_of entry) found.first;
           reached = λ i r is. ⊎_elim
               (λ (before : slice_get ps i ≡ Some r). found.reached i r before)

@@ -1,3 +1,4 @@
+pub mod KeysLemmas
 pub mod Interning
 pub mod ZipLemmas
 pub mod FrameLemmas
@@ -21,3 +22,14 @@ pub mod AssemblyLemmas
 pub mod InverseLemmas
 pub mod Assembled
 pub mod FamilyLemmas
+pub mod StackLemmas
+pub mod LiveLemmas
+pub mod MarkLemmas
+pub mod PlaceLemmas
+pub mod PositionLemmas
+pub mod NodeLemmas
+pub mod KeptLemmas
+pub mod GraphLemmas
+pub mod LeadLemmas
+pub mod NumberLemmas
+pub mod RankLemmas

@@ -6,9 +6,9 @@ use Rattle.std.proofs.lemmas.List.{length_push, length-append}
 use Rattle.std.proofs.lemmas.Option.{none-some, same_Some, slice_get_within}
 use Rattle.wc_model.proofs.Places.{get_left, get_push, get_push_cases, get_within}
 use Rattle.wc_model.specs.Program.Positions.{Call}
-use Rattle.wc_reach.specs.declared.keys.Branch.{Branch}
-use Rattle.wc_reach.specs.Keys.{AreBranches, IsIn, HasKey, after}
-use Rattle.wc_reach.proofs.KeysLemmas.{in_grown, in_shrunk, none_in, get_front}
+use Rattle.wc_graph.specs.declared.keys.Branch.{Branch}
+use Rattle.wc_graph.specs.Inner.Keys.{AreBranches, IsIn, HasKey, after}
+use Rattle.wc_graph.proofs.KeysLemmas.{in_grown, in_shrunk, none_in, get_front}
 use Rattle.wc_graph.specs.declared.frames.Frame.{Frame}
 use Rattle.wc_graph.specs.declared.frames.Way.{Way}
 use Rattle.wc_graph.specs.declared.frames.Way.TheVariants.{Go, Call as CallTo, Leave}

@@ -34,7 +34,7 @@ before_apart [] none = none
 before_apart (x ∷ a) (inl less) = call_apart x less
 before_apart (x ∷ a) (inr less) = before_apart a less.1
 
-grows : (w : List Call) (c : Call) → Before w (w ++ c ∷ [])
+pub grows : (w : List Call) (c : Call) → Before w (w ++ c ∷ [])
 grows [] c = tt
 grows (x ∷ w) c = inr (refl, grows w c)
 

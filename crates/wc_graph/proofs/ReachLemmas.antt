@@ -37,11 +37,11 @@ has_get [] x has = absurd has
 has_get (y ∷ xs) x (inl same) = (0, ap Some same)
 has_get (y ∷ xs) x (inr later) = let deep = has_get xs x later in (suc deep.0, deep.1)
 
-target_some : (ps : List Position) (o : Option ℕ) (t : Option Position) (r : Position) → t ≡ Some r → IsTargetOf ps o t → (j : ℕ) × (o ≡ Some j) × (slice_get ps j ≡ Some r)
+pub target_some : (ps : List Position) (o : Option ℕ) (t : Option Position) (r : Position) → t ≡ Some r → IsTargetOf ps o t → (j : ℕ) × (o ≡ Some j) × (slice_get ps j ≡ Some r)
 target_some ps None t r to is = absurd (none-some r (sym is ∙ to))
 target_some ps (Some j) t r to is = (j, refl, is.1 ∙ ap Some (same_Some is.0 r (sym is.2 ∙ to)))
 
-target_none : (ps : List Position) (o : Option ℕ) (t : Option Position) → t ≡ None → IsTargetOf ps o t → o ≡ None
+pub target_none : (ps : List Position) (o : Option ℕ) (t : Option Position) → t ≡ None → IsTargetOf ps o t → o ≡ None
 target_none ps None t to is = refl
 target_none ps (Some j) t to is = absurd (none-some is.0 (sym to ∙ is.2))
 

@@ -20,7 +20,7 @@ use Rattle.wc_graph.specs.declared.frames.Turn.{Turn}
 use Rattle.wc_graph.specs.declared.opened.Opened.{Opened}
 use Rattle.wc_graph.specs.declared.search.Search.{Search}
 use Rattle.wc_graph.specs.Inner.Numbers.{IsKept}
-use Rattle.wc_graph.specs.Inner.Frames.{IsAt, along, frame_of}
+use Rattle.wc_graph.specs.Inner.Frames.{HasStack, IsAt, along, frame_of}
 use Rattle.wc_graph.specs.Inner.Codes.{AreFrames, IsCode, IsCodeOf, IsFound, IsNew}
 use Rattle.wc_graph.specs.Inner.Exploring.{Lands, IsMany, IsFollowed, HasWays, HasTurns, HasExpanded, IsFull}
 use Rattle.wc_graph.specs.Inner.Faults.{IsAmong, IsLeast}
@@ -194,6 +194,7 @@ starts entry code opened new none = record {
     ps = start_of entry ∷ [];
     found = record {
       placed = subst (λ (fs : List Frame). AllZip (IsAt entry fs) code.places.keys (start_of entry ∷ [])) (sym new.frames) (subst (λ (xs : List Place). AllZip (IsAt entry (root_of entry ∷ [])) xs (start_of entry ∷ [])) (sym new.places) (record { stack = refl; address = refl }, tt));
+      rooted = subst (λ (fs : List Frame). HasStack entry fs 0 []) (sym new.frames) refl;
       first = refl;
       reached = λ k p at. subst (λ (x : Position). Reaches (LeadsBy (steps_of image facts entry)) (start_of entry) x) (one k (start_of entry) p at) here;
     };

@@ -72,6 +72,7 @@ module _ (image : Image) (facts : List Fact) (entry : ℕ) (stated : Stated) (se
       few = subst (λ (c : Code). length c.places.keys ≤ 100000) (sym code_is) complete.ready.few;
       all = subst (λ (c : Code). length c.leaps.items ≡ length c.places.keys) (sym code_is) all;
       searching = subst (λ (c : Code). IsSearchingOf image facts entry c.frames.keys c.places.keys c.leaps.items None) (sym code_is) (subst (λ (o : Option Faulty). IsSearchingOf image facts entry search.code.frames.keys search.code.places.keys search.code.leaps.items o) none s);
+      targets = subst (λ (c : Code). (v : Vec Leap Global) → Has c.leaps.items v → AreTargets (length c.leaps.items) v.items) (sym code_is) targets_inside;
       small = not_many image facts entry search.code.frames.keys search.code.places.keys search.code.leaps.items search.least s complete.ready.few complete.all;
       sound = sound image facts entry search.code.frames.keys search.code.places.keys search.code.leaps.items search.least s complete.ready.few complete.all none;
       live = subst (λ (c : Code). IsLive c.leaps.items survey.live.items) (sym code_is) (subst (IsLive search.code.leaps.items) (sym live_is) live);

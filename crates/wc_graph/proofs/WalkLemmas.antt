@@ -48,7 +48,7 @@ module _ (entry : ℕ) (frames : List Frame) where
   on_same : (k : ℕ) (s t : List Call) → IsOn entry frames k s → IsOn entry frames k t → s ≡ t
   on_same k s t is at = sym (reverse-reverse s) ∙ ap reverse (stack_same entry frames k (reverse s) (reverse t) is at) ∙ reverse-reverse t
 
-  zip_apart : (ks : List ℕ) (ss : List (List Call)) → AllZip (IsOn entry frames) ks ss → Pairs Before ss → Pairs (λ j k. j ≡ k → ⊥) ks
+  pub zip_apart : (ks : List ℕ) (ss : List (List Call)) → AllZip (IsOn entry frames) ks ss → Pairs Before ss → Pairs (λ j k. j ≡ k → ⊥) ks
   zip_apart [] ss zip pairs = tt
   zip_apart (k ∷ ks) [] zip pairs = absurd zip
   zip_apart (k ∷ ks) (s ∷ ss) zip pairs = (

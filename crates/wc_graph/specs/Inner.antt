@@ -1,3 +1,4 @@
+pub mod Keys
 pub mod Numbers
 pub mod Frames
 pub mod Codes
@@ -17,3 +18,4 @@ pub mod Surveys
 pub mod Inverses
 pub mod Ordered
 pub mod Assemblies
+pub mod Numberings

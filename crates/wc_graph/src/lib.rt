@@ -3,18 +3,27 @@
 //! Architecture Reference Manual.
 #![tactic(auto)]
 
+mod assembly;
+mod build;
 mod code;
 mod families;
 mod faults;
 mod frames;
 mod interned;
 mod inverse;
+mod keys;
 mod live;
+mod numbering;
 mod opened;
+mod order;
 mod search;
 mod sources;
 mod stated;
 mod survey;
+#[cfg(test)]
+mod tests;
 mod turns;
 mod walk;
 mod ways;
+
+pub use build::build;

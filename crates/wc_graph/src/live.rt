@@ -1,7 +1,9 @@
-ghost use Rattle.std.specs.Prelude.{◌<◌, ◌∷◌, [], IfOk, length};
+ghost use Rattle.std.specs.Prelude.{◌≡◌, ◌<◌, ◌∷◌, [], IfOk, true, false, length};
 ghost use Rattle.wc_graph.specs.Inner.Lists.{Inside};
+ghost use Rattle.wc_graph.specs.Inner.Ordered.{AreLiveFrames, AreWithin};
 ghost use Rattle.wc_graph.specs.Inner.Spreads.{AllInside, IsUnmarked, Marks, IsSpread};
 
+use crate::frames::Place;
 use std::alloc::{AllocError, Global};
 
 // Numbers that are marked, and those of them whose neighbours wait to be marked.
@@ -36,6 +38,19 @@ impl Marked {
         Ok(())
     }
 
+    // A number is marked where it is told so.
+    fn mark_if(&mut self, told: bool, number: u32) -> Result<(), AllocError>
+        requires { number < length self.old.marks.items }
+        ensures marks { IfOk result (λ _. told ≡ true → Marks (number ∷ []) self.old self.new) }
+        ensures same { IfOk result (λ _. told ≡ false → self.new ≡ self.old) }
+        ensures count { IfOk result (λ _. length self.new.marks.items ≡ length self.old.marks.items) }
+    {
+        if !told {
+            return Ok(());
+        }
+        self.mark(number)
+    }
+
     // Numbers are marked.
     fn mark_all(&mut self, numbers: &[u32]) -> Result<(), AllocError>
         requires { Inside (length self.old.marks.items) numbers.now }
@@ -58,6 +73,24 @@ pub fn spread(alloc: Global, into: &[Vec<u32>], from: &[u32]) -> Result<Vec<bool
     marked.mark_all(from)?;
     while let Some(number) = marked.work.pop() {
         marked.mark_all(into[number as usize].as_slice())?;
+    }
+    Ok(marked.marks)
+}
+
+/// The frames of the live positions, among so many frames.
+pub fn live_frames(
+    alloc: Global,
+    count: usize,
+    places: &[Place],
+    live: &[bool],
+) -> Result<Vec<bool>, AllocError>
+    requires live { length live.now ≡ length places.now }
+    requires inside { AreWithin count places.now }
+    ensures { IfOk result (λ v. AreLiveFrames count places.now live.now (length places.now) v.items) }
+{
+    let mut marked = Marked::new(alloc, count)?;
+    for number in 0..places.len() {
+        marked.mark_if(live[number], places[number].frame)?;
     }
     Ok(marked.marks)
 }

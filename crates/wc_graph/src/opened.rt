@@ -6,8 +6,8 @@ ghost use Rattle.wc_graph.specs.Inner.Opened.{AreOpened, IsBelow, reopens};
 ghost use Rattle.wc_model.specs.Program.Positions.{Call};
 
 use crate::frames::{Frame, Turn, Way};
+use crate::keys::{Branch, has, with};
 use std::alloc::{AllocError, Global};
-use wc_reach::{Branch, has, with};
 
 /// Which functions are open at each frame: the functions of the frame and of those below it.
 #[derive(Drop)]

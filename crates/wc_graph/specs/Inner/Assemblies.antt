@@ -1,9 +1,10 @@
 -- The graph out of what was found, with new numbers.
-use Rattle.std.specs.Prelude.{ℕ, ◌≡◌, ◌+◌, Bool, List, [], ◌∷◌, ◌++◌, map, Option, None, Some, Vec, option_and_then, slice_get}
+use Rattle.std.specs.Prelude.{ℕ, ◌≡◌, ◌+◌, ◌<◌, ◌^◌, Bool, List, [], ◌∷◌, ◌++◌, map, Option, None, Some, Vec, option_and_then, length, slice_get}
 use Rattle.std.specs.Global.{Global}
 use Rattle.std.specs.List.{flat_map}
 use Rattle.wc_model.specs.declared.elf_image.Image.{Image}
 use Rattle.wc_model.specs.declared.graphs.Context.{Context}
+use Rattle.wc_model.specs.declared.graphs.Graph.{Graph}
 use Rattle.wc_model.specs.declared.graphs.Node.{Node}
 use Rattle.wc_model.specs.declared.graphs.Step.{Step as NumberedStep}
 use Rattle.wc_model.specs.declared.instructions.Insn.{Insn}
@@ -12,6 +13,8 @@ use Rattle.wc_graph.specs.declared.frames.Frame.{Frame}
 use Rattle.wc_graph.specs.declared.frames.Leap.{Leap}
 use Rattle.wc_graph.specs.declared.frames.Place.{Place}
 use Rattle.wc_graph.specs.Inner.Frames.{frame_at}
+use Rattle.wc_graph.specs.declared.numbering.Numbering.{Numbering}
+use Rattle.wc_graph.specs.declared.survey.Survey.{Survey}
 use Rattle.wc_graph.specs.Inner.Ordered.{place_at, rank_at}
 
 abbrev pub context_of : List Frame → List (Option ℕ) → ℕ → Context
@@ -46,3 +49,11 @@ leaps_at (Some own) = own.items
 abbrev pub steps_from : List (Vec Leap Global) → List (Option ℕ) → ℕ → List ℕ → List NumberedStep
 steps_from leaps numbers n [] = []
 steps_from leaps numbers n (k ∷ ks) = flat_map (step_of numbers n) (leaps_at (slice_get leaps k)) ++ steps_from leaps numbers (n + 1) ks
+
+-- the graph of a survey, by the numbers of its frames and positions
+pub record IsAssembled (image : Image) (survey : Survey) (frames places : Numbering) (graph : Graph) : Type 0 where
+  pub contexts : graph.contexts ≡ map (context_of survey.code.frames.keys frames.numbers.items) frames.order.items
+  pub nodes : graph.nodes ≡ flat_map (node_of image survey.code.places.keys frames.numbers.items) places.order.items
+  pub steps : graph.steps ≡ steps_from survey.code.leaps.items places.numbers.items 0 places.order.items
+  pub few_steps : length graph.steps < 2 ^ 32
+  pub start : slice_get places.numbers.items 0 ≡ Some (Some graph.start)

@@ -10,7 +10,7 @@ use Rattle.wc_graph.specs.declared.frames.Frame.{Frame}
 use Rattle.wc_graph.specs.declared.frames.Place.{Place}
 use Rattle.wc_graph.specs.declared.frames.Way.{Way}
 use Rattle.wc_graph.specs.Inner.Numbers.{IsOnce, IsKept, IsGrown}
-use Rattle.wc_graph.specs.Inner.Frames.{IsAt, IsTargetPlace, frame_of, way_target}
+use Rattle.wc_graph.specs.Inner.Frames.{HasStack, IsAt, IsTargetPlace, frame_of, way_target}
 
 pub record AreFrames (frames : List Frame) : Type 0 where
   pub once : IsOnce frames
@@ -53,6 +53,7 @@ HasTarget old new place way target = HasTargetOf old.frames.keys new.frames.keys
 -- the places stand for these positions, which are reached
 pub record IsFound (steps : Position → List Step) (entry : ℕ) (frames : List Frame) (places : List Place) (ps : List Position) : Type 0 where
   pub placed : AllZip (IsAt entry frames) places ps
+  pub rooted : HasStack entry frames 0 []
   pub first : slice_get ps 0 ≡ Some (start_of entry)
   pub reached : (k : ℕ) (p : Position) → slice_get ps k ≡ Some p → Reaches (LeadsBy steps) (start_of entry) p
 

@@ -6,8 +6,8 @@ use Rattle.wc_graph.specs.declared.frames.Frame.{Frame}
 use Rattle.wc_graph.specs.declared.frames.Way.{Way}
 use Rattle.wc_graph.specs.declared.frames.Way.TheVariants.{Go, Call as CallTo, Leave}
 use Rattle.wc_graph.specs.declared.opened.Opened.{Opened}
-use Rattle.wc_reach.specs.declared.keys.Branch.{Branch}
-use Rattle.wc_reach.specs.Keys.{AreBranches, IsIn}
+use Rattle.wc_graph.specs.declared.keys.Branch.{Branch}
+use Rattle.wc_graph.specs.Inner.Keys.{AreBranches, IsIn}
 
 -- a way calls a function that is open
 abbrev pub reopens : ℕ → List Call → Way → Bool

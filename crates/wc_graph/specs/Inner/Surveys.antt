@@ -13,8 +13,9 @@ use Rattle.wc_graph.specs.declared.frames.Leap.{Leap}
 use Rattle.wc_graph.specs.declared.sources.Sources.{Sources}
 use Rattle.wc_graph.specs.declared.survey.Survey.{Survey}
 use Rattle.wc_graph.specs.Inner.Codes.{IsCode}
+use Rattle.wc_graph.specs.Inner.Lists.{Has}
 use Rattle.wc_graph.specs.Inner.Searches.{IsSearchingOf}
-use Rattle.wc_graph.specs.Inner.Sources.{AreSources, edges_from}
+use Rattle.wc_graph.specs.Inner.Sources.{AreSources, AreTargets, edges_from}
 use Rattle.wc_graph.specs.Inner.Spreads.{IsMarked, IsSpread}
 
 -- exactly the numbers from which steps lead to the exit are marked
@@ -28,6 +29,7 @@ pub record IsSurvey (image : Image) (facts : List Fact) (entry : ℕ) (survey : 
   pub few : length survey.code.places.keys ≤ 100000
   pub all : length survey.code.leaps.items ≡ length survey.code.places.keys
   pub searching : IsSearchingOf image facts entry survey.code.frames.keys survey.code.places.keys survey.code.leaps.items None
+  pub targets : (v : Vec Leap Global) → Has survey.code.leaps.items v → AreTargets (length survey.code.leaps.items) v.items
   pub small : IsTooLarge image facts entry → ⊥
   pub sound : IsSound image facts entry
   pub live : IsLive survey.code.leaps.items survey.live.items

@@ -4,8 +4,8 @@ use Rattle.std.proofs.lemmas.Option.{slice_get_read}
 use Rattle.wc_graph.specs.declared.frames.Way.{Way}
 use Rattle.wc_graph.specs.Inner.Opened.{reopens}
 use Rattle.wc_graph.proofs.OpenedLemmas.{call_test, test_is}
-use Rattle.wc_reach.specs.declared.keys.Branch.{Branch}
-use Rattle.wc_reach.specs.Keys.{AreBranches, IsIn}
+use Rattle.wc_graph.specs.declared.keys.Branch.{Branch}
+use Rattle.wc_graph.specs.Inner.Keys.{AreBranches, IsIn}
 use Rattle.wc_graph.proofs.opened.Opened.reopens_one.Goals as goal
 
 pub has-requires-clause-are : goal.has-requires-clause-are

@@ -1,0 +1,82 @@
+-- The new numbers of frames and of positions.
+use Rattle.std.proofs.Common.{ℕ, ◌≡◌, ◌+◌, ◌<◌, ◌≤◌, Bool, List, [], Option, None, Some, Vec, Global, length, refl, sym, ap, subst, ◌∙◌, arith}
+use Rattle.std.specs.List.{slice_get}
+use Rattle.std.proofs.lemmas.Option.{slice_get_within}
+use Rattle.wc_model.specs.declared.elf_image.Image.{Image}
+use Rattle.wc_model.specs.declared.flow_facts.Fact.{Fact}
+use Rattle.wc_graph.specs.declared.frames.Frame.{Frame}
+use Rattle.wc_graph.specs.declared.frames.Leap.{Leap}
+use Rattle.wc_graph.specs.declared.frames.Place.{Place}
+use Rattle.wc_graph.specs.declared.numbering.Numbering.{Numbering}
+use Rattle.wc_graph.specs.declared.survey.Survey.{Survey}
+use Rattle.wc_graph.specs.Inner.Frames.{frame_of}
+use Rattle.wc_graph.specs.Inner.Inverses.{IsPlacedTo}
+use Rattle.wc_graph.specs.Inner.Lists.{Has, Inside}
+use Rattle.wc_graph.specs.Inner.Numberings.{AreNumbered, HasPlaces, IsRanked, IsSized}
+use Rattle.wc_graph.specs.Inner.Numbers.{IsOnce}
+use Rattle.wc_graph.specs.Inner.Ordered.{AreLiveFrames, AreOrdered}
+use Rattle.wc_graph.specs.Inner.Orders.{Pairs}
+use Rattle.wc_graph.specs.Inner.Sources.{AreTargets}
+use Rattle.wc_graph.specs.Inner.Surveys.{IsSurvey}
+use Rattle.wc_graph.specs.Inner.Walks.{IsListed, IsWalkable}
+use Rattle.wc_graph.proofs.LiveLemmas.{walkable}
+use Rattle.wc_graph.proofs.PlaceLemmas.{once_apart, order_few, order_inside, order_once}
+use Rattle.wc_graph.proofs.WalkLemmas.{few_apart, live_within, zip_apart}
+
+module _ (image : Image) (facts : List Fact) (entry : ℕ) (survey : Survey) (is : IsSurvey image facts entry survey) where
+  pub sized : IsSized survey
+  sized = record {
+    code = is.code;
+    few = is.few;
+    live = omega (arith, is.live.spread.count, is.live.are.counted, is.all);
+    leaps = is.all;
+    targets = λ v has. subst (λ (n : ℕ). AreTargets n v.items) is.all (is.targets v has);
+  }
+
+  pub some_frames : 0 < length survey.code.frames.keys
+  some_frames = slice_get_within survey.code.frames.keys 0 (frame_of None (record { returns = 0; callee = entry })) is.searching.found.rooted
+
+  pub few_frames : length survey.code.frames.keys ≤ 100000
+  few_frames = omega (arith, is.code.fewer, is.few)
+
+  module _ (marks : List Bool) (are : AreLiveFrames (length survey.code.frames.keys) survey.code.places.keys survey.live.items (length survey.code.places.keys) marks) (order : List ℕ) (listed : IsListed entry survey.code.frames.keys marks order) where
+    pub ranks_inside : Inside (length survey.code.frames.keys) order
+    ranks_inside k has = live_within entry survey.code.frames.keys marks is.code.frames_are few_frames (walkable image facts entry survey is marks are) k (listed.live_are k has)
+
+    ranks_apart : Pairs (λ j k. j ≡ k → ⊥) order
+    ranks_apart = zip_apart entry survey.code.frames.keys order listed.stacks listed.are listed.sorted
+
+    pub ranks_few : length order ≤ 100000
+    ranks_few = omega (arith, few_apart order (length survey.code.frames.keys) ranks_apart ranks_inside, few_frames)
+
+    pub ranked : (numbering : Numbering) → numbering.order.items ≡ order → IsPlacedTo (length survey.code.frames.keys) order (length order) numbering.numbers.items → IsRanked entry survey numbering
+    ranked numbering same placed = record {
+      marks = marks;
+      are = are;
+      walkable = walkable image facts entry survey is marks are;
+      listed = subst (IsListed entry survey.code.frames.keys marks) (sym same) listed;
+      numbered = record {
+        inside = subst (Inside (length survey.code.frames.keys)) (sym same) ranks_inside;
+        few = subst (λ (ks : List ℕ). length ks ≤ 100000) (sym same) ranks_few;
+        once = subst IsOnce (sym same) (once_apart order ranks_apart);
+        placed = subst (λ (ks : List ℕ). IsPlacedTo (length survey.code.frames.keys) ks (length ks) numbering.numbers.items) (sym same) placed;
+      };
+    }
+
+module _ (survey : Survey) (size : IsSized survey) (frames : Numbering) (order : List ℕ) (are : AreOrdered survey.code.places.keys survey.live.items frames.numbers.items order) where
+  pub places_inside : Inside (length survey.code.places.keys) order
+  places_inside = order_inside survey.code.places.keys survey.live.items frames.numbers.items order size.few size.code.once are
+
+  pub places_few : length order ≤ 100000
+  places_few = omega (arith, order_few survey.code.places.keys survey.live.items frames.numbers.items order size.few size.code.once are, size.few)
+
+  pub placed_all : (numbering : Numbering) → numbering.order.items ≡ order → IsPlacedTo (length survey.code.places.keys) order (length order) numbering.numbers.items → HasPlaces survey frames numbering
+  placed_all numbering same placed = record {
+    are = subst (AreOrdered survey.code.places.keys survey.live.items frames.numbers.items) (sym same) are;
+    numbered = record {
+      inside = subst (Inside (length survey.code.places.keys)) (sym same) places_inside;
+      few = subst (λ (ks : List ℕ). length ks ≤ 100000) (sym same) places_few;
+      once = subst IsOnce (sym same) (order_once survey.code.places.keys survey.live.items frames.numbers.items order size.few size.code.once are);
+      placed = subst (λ (ks : List ℕ). IsPlacedTo (length survey.code.places.keys) ks (length ks) numbering.numbers.items) (sym same) placed;
+    };
+  }
