@@ -1,6 +1,7 @@
 -- Contexts, nodes and steps with their new numbers.
-use Rattle.std.proofs.Common.{ℕ, zero, suc, ◌≡◌, ◌+◌, ◌<◌, ◌≤◌, ◌⊎◌, inl, inr, ⊎_elim, Bool, true, false, List, [], ◌∷◌, ◌++◌, map, Option, None, Some, IfSome, Vec, Global, option_and_then, length, refl, sym, ap, subst, ◌∙◌, arith}
+use Rattle.std.proofs.Common.{ℕ, zero, suc, ◌≡◌, ◌+◌, ◌<◌, ◌≤◌, ◌⊎◌, inl, inr, ⊎_elim, Bool, true, false, List, [], ◌∷◌, ◌++◌, map, Option, None, Some, IfSome, Vec, Global, option_and_then, length, get_or, drop, append_assoc, refl, sym, ap, subst, ◌∙◌, arith}
 use Rattle.std.specs.List.{AllZip, Contains, flat_map, slice_get}
+use Rattle.std.proofs.lemmas.List.{drop_more}
 use Rattle.std.proofs.lemmas.Option.{none-some, same_Some, slice_get_within, slice_get-get_or, get_or_from_slice_get}
 use Rattle.wc_model.specs.declared.elf_image.Image.{Image}
 use Rattle.wc_model.specs.declared.flow_facts.Fact.{Fact}
@@ -33,6 +34,15 @@ get_map f (y ∷ xs) (suc i) x at = get_map f xs i x at
 
 pub rank_is : (ranks : List (Option ℕ)) (k i : ℕ) → slice_get ranks k ≡ Some (Some i) → rank_at ranks k ≡ Some i
 rank_is ranks k i at = get_or_from_slice_get ranks k (Some i) None at
+
+-- the steps of one node more, from the front of what is to come
+pub steps_more : (leaps : List (Vec Leap Global)) (numbers : List (Option ℕ)) (order : List ℕ) (i : ℕ) (old new : List NumberedStep) (v : Vec Leap Global) → i < length order → slice_get leaps (get_or order i 0) ≡ Some v → new ≡ old ++ flat_map (step_of numbers i) v.items → new ++ steps_from leaps numbers (i + 1) (drop (i + 1) order) ≡ old ++ steps_from leaps numbers i (drop i order)
+steps_more leaps numbers order i old new v less at is =
+    let rest : List NumberedStep = steps_from leaps numbers (i + 1) (drop (i + 1) order) in
+    ap (λ (xs : List NumberedStep). xs ++ rest) is
+    ∙ append_assoc old (flat_map (step_of numbers i) v.items) rest
+    ∙ ap (λ (o : Option (Vec Leap Global)). old ++ (flat_map (step_of numbers i) (leaps_at o) ++ rest)) (sym at)
+    ∙ ap (λ (ks : List ℕ). old ++ steps_from leaps numbers i ks) (sym (drop_more order i 0 less))
 
 -- the contexts have the stacks of their frames
 module _ (entry : ℕ) (frames : List Frame) (live : List Bool) (walkable : IsWalkable entry frames live) (listed : List ℕ) (listed_is : IsListed entry frames live listed) (once : IsOnce listed) (count : ℕ) (ranks : List (Option ℕ)) (placed : IsPlacedTo count listed (length listed) ranks) where

@@ -81,10 +81,10 @@ module _ {image : Image} {facts : List Fact} {entry : ℕ} {survey : Survey} {ra
     reached_in : (start : ℕ) → slice_get (positions b) start ≡ Some (start_of entry) → (p : Position) → Reaches (LeadsBy steps) (start_of entry) p → Ends (LeadsBy steps) p → (k : ℕ) → slice_get (positions b) k ≡ Some p → Reaches (LeadsIn zs) start k
     reached_in start started p here ends k at = subst (Reaches (LeadsIn zs) start) (position_once start k (start_of entry) started at) here
     reached_in start started p (along {q} r way leads) ends k at =
-        let onto : Ends (LeadsBy steps) q = onward p leads ends in
+        let onto : Ends (LeadsBy steps) q = onward r leads ends in
         let i = position_number b q (way, onto) in
-        let to = leads_on q i.0 i.1 p (along p way leads, ends) leads in
-        along k (reached_in start started q way onto i.0 i.1) (subst (λ (j : ℕ). LeadsIn zs i.0 (Some j)) (position_once to.0 k p to.1 at) to.2)
+        let to = leads_on q i.0 i.1 r (along r way leads, ends) leads in
+        along k (reached_in start started q way onto i.0 i.1) (subst (λ (j : ℕ). LeadsIn zs i.0 (Some j)) (position_once to.0 k r to.1 at) to.2)
 
     ends_in : (p : Position) → Ends (LeadsBy steps) p → Reaches (LeadsBy steps) (start_of entry) p → (k : ℕ) → slice_get (positions b) k ≡ Some p → Ends (LeadsIn zs) k
     ends_in p (exits leads) way k at =

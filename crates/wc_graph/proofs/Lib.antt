@@ -33,3 +33,4 @@ pub mod GraphLemmas
 pub mod LeadLemmas
 pub mod NumberLemmas
 pub mod RankLemmas
+pub mod ResultLemmas

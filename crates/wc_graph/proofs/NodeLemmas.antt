@@ -1,8 +1,8 @@
 -- The nodes and the contexts stand for the live positions and their stacks.
-use Rattle.std.proofs.Common.{ℕ, zero, suc, ◌≡◌, ◌+◌, ◌<◌, ◌≤◌, ◌↔◌, ◌⊎◌, inl, inr, ⊎_elim, Bool, List, [], ◌∷◌, ◌++◌, map, reverse, Option, None, Some, option_and_then, length, refl, sym, ap, subst, ◌∙◌, arith, Less, length-map}
+use Rattle.std.proofs.Common.{ℕ, zero, suc, ◌≡◌, ◌+◌, ◌<◌, ◌≤◌, ◌↔◌, ◌⊎◌, inl, inr, ⊎_elim, Bool, List, [], ◌∷◌, ◌++◌, map, reverse, Option, None, Some, option_and_then, length, refl, sym, ap, subst, ◌∙◌, arith, Less}
 use Rattle.std.specs.Cmp.Lexicographic.{slice_cmp}
 use Rattle.std.specs.List.{AllPairs, AllZip, Contains, flat_map, slice_get}
-use Rattle.std.proofs.lemmas.List.{reverse-reverse}
+use Rattle.std.proofs.lemmas.List.{length-map, reverse-reverse}
 use Rattle.std.proofs.lemmas.Option.{none-some, same_Some}
 use Rattle.wc_base.specs.declared.faults.Fault.{Fault}
 use Rattle.wc_base.specs.declared.faults.Fault.TheVariants.{OutOfText, UnknownInstruction}
@@ -137,4 +137,4 @@ module _ {image : Image} {facts : List Fact} {entry : ℕ} {survey : Survey} {ra
   contexts_are i calls at = let f = stack_number i calls at in context_is i f.0 calls f.1 f.2
 
   pub contexts_counted : length contexts ≡ length stacks
-  contexts_counted = length-map (context_of frames ranking.numbers.items) ranking.order.items ∙ zip_length (IsOn entry frames) ranking.order.items b.ranked.listed.stacks b.ranked.listed.are ∙ sym (length-map reverse b.ranked.listed.stacks)
+  contexts_counted = length-map ranking.order.items (context_of frames ranking.numbers.items) ∙ zip_length (IsOn entry frames) ranking.order.items b.ranked.listed.stacks b.ranked.listed.are ∙ sym (length-map b.ranked.listed.stacks reverse)

@@ -1,5 +1,5 @@
 -- What the numbers of the graph keep, for the phases after it.
-use Rattle.std.proofs.Common.{ℕ, ◌≡◌, ◌+◌, ◌<◌, ◌≤◌, ◌^◌, ◌⊎◌, inl, inr, ⊎_elim, Bool, List, [], ◌∷◌, ◌++◌, map, reverse, Option, None, Some, IfSome, Vec, Global, option_and_then, length, get_or, refl, sym, ap, subst, ◌∙◌, arith, length-map}
+use Rattle.std.proofs.Common.{ℕ, ◌≡◌, ◌+◌, ◌<◌, ◌≤◌, ◌^◌, ◌⊎◌, inl, inr, ⊎_elim, Bool, List, [], ◌∷◌, ◌++◌, map, reverse, Option, None, Some, IfSome, Vec, Global, option_and_then, length, get_or, refl, sym, ap, subst, ◌∙◌, arith}
 use Rattle.std.specs.List.{All, AllPairs, AllZip, flat_map, slice_get}
 use Rattle.std.proofs.lemmas.Bool.{cases_lt}
 use Rattle.std.proofs.lemmas.List.{reverse-append, reverse-reverse}
@@ -42,6 +42,9 @@ all_from : {X : Type 0} (P : X → Type 0) (xs : List X) → ((i : ℕ) (x : X) 
 all_from P xs each k d less = each k (get_or xs k d) (slice_get-get_or xs k d less)
 
 -- the sources of the steps rise
+abbrev Rising : NumberedStep → NumberedStep → Type 0
+Rising s t = s.source ≤ t.source
+
 module _ (leaps : List (Vec Leap Global)) (numbers : List (Option ℕ)) where
   one_source : (n : ℕ) (taken : Bool) (o : Option (Option ℕ)) (z : NumberedStep) → Has (step_to n taken o) z → z.source ≡ n
   one_source n taken None z (inl same) = ap (λ (s : NumberedStep). s.source) (sym same)
@@ -60,13 +63,13 @@ module _ (leaps : List (Vec Leap Global)) (numbers : List (Option ℕ)) where
       (λ later. omega (arith, later_source (n + 1) ks z later))
       (has_append (flat_map (step_of numbers n) (leaps_at (slice_get leaps k))) (steps_from leaps numbers (n + 1) ks) z has)
 
-  same_rises : (n : ℕ) (zs : List NumberedStep) → ((z : NumberedStep) → Has zs z → z.source ≡ n) → Pairs (λ s t. s.source ≤ t.source) zs
+  same_rises : (n : ℕ) (zs : List NumberedStep) → ((z : NumberedStep) → Has zs z → z.source ≡ n) → Pairs Rising zs
   same_rises n [] same = tt
   same_rises n (z ∷ zs) same = ((λ t has. omega (arith, same z (inl refl), same t (inr has))), same_rises n zs (λ t has. same t (inr has)))
 
-  sources_rise : (n : ℕ) (ks : List ℕ) → Pairs (λ s t. s.source ≤ t.source) (steps_from leaps numbers n ks)
+  sources_rise : (n : ℕ) (ks : List ℕ) → Pairs Rising (steps_from leaps numbers n ks)
   sources_rise n [] = tt
-  sources_rise n (k ∷ ks) = pairs_append (λ s t. s.source ≤ t.source) (flat_map (step_of numbers n) (leaps_at (slice_get leaps k))) (steps_from leaps numbers (n + 1) ks)
+  sources_rise n (k ∷ ks) = pairs_append Rising (flat_map (step_of numbers n) (leaps_at (slice_get leaps k))) (steps_from leaps numbers (n + 1) ks)
       (same_rises n (flat_map (step_of numbers n) (leaps_at (slice_get leaps k))) (own_source n (leaps_at (slice_get leaps k))))
       (sources_rise (n + 1) ks)
       (λ s t has_s has_t. omega (arith, own_source n (leaps_at (slice_get leaps k)) s has_s, later_source (n + 1) ks t has_t))
@@ -85,8 +88,11 @@ module _ {image : Image} {facts : List Fact} {entry : ℕ} {survey : Survey} {ra
   context_at k f g at_k at_f = context_is entry frames b.ranked.marks b.ranked.walkable ranking.order.items b.ranked.listed b.ranked.numbered.once (length frames) ranking.numbers.items b.ranked.numbered.placed k f g at_k at_f
 
   parent_of : (k : ℕ) (c : Context) (f : ℕ) (calls : List Call) → slice_get (contexts b) k ≡ Some c → slice_get ranking.order.items k ≡ Some f → HasStack entry frames f calls → (o : Option ℕ) → c.parent ≡ o → IfSome o (λ j. j < k)
-  parent_of k c f calls at_c at_k stack None is = tt
-  parent_of k c f [] at_c at_k stack (Some j) is = absurd (none-some j (ap (λ (d : Context). d.parent) (same_Some (record { parent = None; returns = 0; callee = entry }) c (sym (context_at k f (frame_of None (record { returns = 0; callee = entry })) at_k stack) ∙ at_c)) ∙ is))
+  parent_of k c f [] at_c at_k stack None is = tt
+  parent_of k c f [] at_c at_k stack (Some j) is =
+      let root : Context = record { parent = None; returns = 0; callee = entry } in
+      absurd (none-some j (ap (λ (d : Context). d.parent) (same_Some root c (sym (context_at k f (frame_of None (record { returns = 0; callee = entry })) at_k stack) ∙ at_c)) ∙ is))
+  parent_of k c f (call ∷ cs) at_c at_k stack None is = tt
   parent_of k c f (call ∷ cs) at_c at_k stack (Some j) is =
       let e : ℕ = stack.0 in
       let marked = b.ranked.listed.live_are f (get_has ranking.order.items k f at_k) in
@@ -94,7 +100,8 @@ module _ {image : Image} {facts : List Fact} {entry : ℕ} {survey : Survey} {ra
       let below = b.ranked.walkable.below f e marked (ap (λ (g : Frame). g.parent) frame) in
       let rank = rank_is b e below in
       let own = context_at k f (frame_of (Some e) call) at_k stack.1 in
-      let one : rank.0 ≡ j = same_Some rank.0 j (sym rank.2 ∙ ap (λ (d : Context). d.parent) (same_Some (record { parent = rank_at ranking.numbers.items e; returns = call.returns; callee = call.callee }) c (sym own ∙ at_c)) ∙ is) in
+      let made : Context = record { parent = rank_at ranking.numbers.items e; returns = call.returns; callee = call.callee } in
+      let one : rank.0 ≡ j = same_Some rank.0 j (sym rank.2 ∙ ap (λ (d : Context). d.parent) (same_Some made c (sym own ∙ at_c)) ∙ is) in
       let s = stack_at b k f (call ∷ cs) at_k stack in
       let t = stack_at b rank.0 e cs rank.1 stack.2 in
       let before : Before t.0 s.0 = stack_grows s.0 t.0 cs call s.2 t.2 in
@@ -142,15 +149,15 @@ module _ {image : Image} {facts : List Fact} {entry : ℕ} {survey : Survey} {ra
       few = omega (arith, count, places, b.ordered.numbered.few);
       few_steps = built.few_steps;
       starts = omega (arith, count, slice_get_within (positions b) graph.start (start_of entry) (started b graph built));
-      sources = all_from (λ s. s.source < length graph.nodes) graph.steps (λ i z at.
+      sources = all_from (λ (s : NumberedStep). s.source < length graph.nodes) graph.steps (λ i z at.
           let s = zip_right (IsStepOf (positions b)) graph.steps kept.some i z kept.stands at in
           omega (arith, count, slice_get_within (positions b) z.source s.0.source s.2.source_is));
-      targets = all_from (λ s. IfSome s.target (λ q. q < length graph.nodes)) graph.steps (λ i z at.
+      targets = all_from (λ (s : NumberedStep). IfSome s.target (λ q. q < length graph.nodes)) graph.steps (λ i z at.
           let s = zip_right (IsStepOf (positions b)) graph.steps kept.some i z kept.stands at in
           target_inside z.target s.0.target s.2.target_is);
-      sorted = pairs_all (λ s t. s.source ≤ t.source) graph.steps (subst (Pairs (λ s t. s.source ≤ t.source)) (sym built.steps) (sources_rise survey.code.leaps.items ordering.numbers.items 0 ordering.order.items));
+      sorted = pairs_all Rising graph.steps (subst (Pairs Rising) (sym built.steps) (sources_rise survey.code.leaps.items ordering.numbers.items 0 ordering.order.items));
       live = λ k less. let p = get_within (positions b) k (omega (arith, less, count)) in live_in b graph.steps kept graph.start (started b graph built) k p.0 p.1;
-      placed = all_from (λ n. n.context < length graph.contexts) graph.nodes (λ i n at.
+      placed = all_from (λ (n : Node). n.context < length graph.contexts) graph.nodes (λ i n at.
           let p = zip_right (IsNodeOf image entry graph.contexts) graph.nodes (positions b) i n nodes at in
           stack_within graph.contexts n.context p.0.calls p.2.stack);
       parents = λ k c at. parents_below k c (subst (λ (cs : List Context). slice_get cs k ≡ Some c) built.contexts at);

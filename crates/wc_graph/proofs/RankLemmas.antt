@@ -63,6 +63,20 @@ module _ (image : Image) (facts : List Fact) (entry : ℕ) (survey : Survey) (is
       };
     }
 
+-- the same of equal lists
+pub live_over : (count : ℕ) (places other : List Place) (live also : List Bool) (n : ℕ) (marks : List Bool) → n ≡ count → other ≡ places → also ≡ live → AreLiveFrames n other also (length other) marks → AreLiveFrames count places live (length places) marks
+live_over count places other live also n marks count_is places_are live_are are =
+    subst (λ (k : ℕ). AreLiveFrames k places live (length places) marks) count_is (subst (λ (ls : List Bool). AreLiveFrames n places ls (length places) marks) live_are (subst (λ (ps : List Place). AreLiveFrames n ps also (length ps) marks) places_are are))
+
+pub listed_over : (entry : ℕ) (frames other : List Frame) (marks also : List Bool) (order : List ℕ) → other ≡ frames → also ≡ marks → IsWalkable entry frames marks → (IsWalkable entry other also → IsListed entry other also order) → IsListed entry frames marks order
+listed_over entry frames other marks also order frames_are marks_are walks listed =
+    let own : IsWalkable entry other also = subst (λ (fs : List Frame). IsWalkable entry fs also) (sym frames_are) (subst (IsWalkable entry frames) (sym marks_are) walks) in
+    subst (λ (fs : List Frame). IsListed entry fs marks order) frames_are (subst (λ (ms : List Bool). IsListed entry other ms order) marks_are (listed own))
+
+pub ordered_over : (places other : List Place) (live also : List Bool) (ranks those : List (Option ℕ)) (order : List ℕ) → other ≡ places → also ≡ live → those ≡ ranks → AreOrdered other also those order → AreOrdered places live ranks order
+ordered_over places other live also ranks those order places_are live_are ranks_are are =
+    subst (λ (ps : List Place). AreOrdered ps live ranks order) places_are (subst (λ (ls : List Bool). AreOrdered other ls ranks order) live_are (subst (λ (rs : List (Option ℕ)). AreOrdered other also rs order) ranks_are are))
+
 module _ (survey : Survey) (size : IsSized survey) (frames : Numbering) (order : List ℕ) (are : AreOrdered survey.code.places.keys survey.live.items frames.numbers.items order) where
   pub places_inside : Inside (length survey.code.places.keys) order
   places_inside = order_inside survey.code.places.keys survey.live.items frames.numbers.items order size.few size.code.once are

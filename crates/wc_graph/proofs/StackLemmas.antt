@@ -34,10 +34,19 @@ pub record IsStepFrom (p : Position) (s : Step) : Type 0 where
   pub source_is : s.source ≡ p
   pub goes : GoesOn p s.target
 
+abbrev own_call : Position → ℕ → Call
+own_call p callee = record { returns = (p.pc + 4) % 2 ^ 32; callee = callee }
+
+abbrev called : Position → ℕ → Option Position
+called p callee = Some (record { calls = own_call p callee ∷ p.calls; pc = callee })
+
+abbrev nexts : Position → Bool → List Step
+nexts p b = if b then (record { source = p; target = next_of p; taken = false }) ∷ [] else []
+
 module _ (facts : List Fact) (p : Position) where
-  call_if : (callee : ℕ) (t : Option Position) (b : Bool) → Has (if b then [] else Some (record { calls = (record { returns = (p.pc + 4) % 2 ^ 32; callee = callee }) ∷ p.calls; pc = callee }) ∷ []) t → GoesOn p t
+  call_if : (callee : ℕ) (t : Option Position) (b : Bool) → Has (if b then [] else called p callee ∷ []) t → GoesOn p t
   call_if callee t true none = absurd none
-  call_if callee t false (inl same) = subst (GoesOn p) same (inr (inl (record { returns = (p.pc + 4) % 2 ^ 32; callee = callee }, refl)))
+  call_if callee t false (inl same) = subst (GoesOn p) same (inr (inl (own_call p callee, refl)))
   call_if callee t false (inr none) = absurd none
 
   call_goes : (callee : ℕ) (t : Option Position) → Has (call_to facts p callee) t → GoesOn p t
@@ -59,7 +68,7 @@ module _ (facts : List Fact) (p : Position) where
   taken_goes IndirectJump t has = let from = has_map (jump_to p) (jump_targets facts p.pc) t has in subst (GoesOn p) from.2 (inl refl)
   taken_goes IndirectCall t has = let from = has_flat (call_to facts p) (call_targets facts p.pc) t has in call_goes from.0 t from.2
 
-  next_from : (s : Step) (b : Bool) → Has (if b then (record { source = p; target = next_of p; taken = false }) ∷ [] else []) s → IsStepFrom p s
+  next_from : (s : Step) (b : Bool) → Has (nexts p b) s → IsStepFrom p s
   next_from s true (inl same) = subst (IsStepFrom p) same (record { source_is = refl; goes = inl refl })
   next_from s true (inr none) = absurd none
   next_from s false none = absurd none
@@ -69,8 +78,8 @@ module _ (facts : List Fact) (p : Position) where
       (λ (taken : Has (map (taken_step p) (taken_targets facts p insn.control)) s).
       let from = has_map (taken_step p) (taken_targets facts p insn.control) s taken in
       subst (IsStepFrom p) from.2 (record { source_is = refl; goes = taken_goes insn.control from.0 from.1 }))
-      (λ next. next_from s (passes_on insn) next)
-      (has_append (map (taken_step p) (taken_targets facts p insn.control)) (if passes_on insn then (record { source = p; target = next_of p; taken = false }) ∷ [] else []) s has)
+      (λ (next : Has (nexts p (passes_on insn)) s). next_from s (passes_on insn) next)
+      (has_append (map (taken_step p) (taken_targets facts p insn.control)) (nexts p (passes_on insn)) s has)
 
   known_from : (fault : Option Fault) (insn : Option Insn) (s : Step) → Has (steps_unless fault (steps_known facts p insn)) s → IsStepFrom p s
   known_from None None s none = absurd none
@@ -93,20 +102,23 @@ module _ (image : Image) (facts : List Fact) (entry : ℕ) where
   abbrev steps : Position → List Step
   steps = steps_of image facts entry
 
-  pub live_below : (q : Position) → Reaches (LeadsBy steps) (start_of entry) q → Ends (LeadsBy steps) q → (t : List Call) → IsBelow t q.calls → (p : Position) × IsLive (LeadsBy steps) (start_of entry) p × (p.calls ≡ t)
-  live_below q here ends t below = (start_of entry, (here, ends), sym below)
-  live_below q (along {r} q way leads) ends t below = by (subst (GoesOn r) leads.2 from.goes)
+  abbrev IsStackLive : List Call → Type 0
+  IsStackLive t = (p : Position) × IsLive (LeadsBy steps) (start_of entry) p × (p.calls ≡ t)
+
+  below_step : (q r : Position) → LeadsBy steps r (Some q) → IsLive (LeadsBy steps) (start_of entry) q → (t : List Call) → IsBelow t q.calls → (IsBelow t r.calls → IsStackLive t) → IsStackLive t
+  below_step q r leads lives t below before = by (subst (GoesOn r) leads.2 from.goes)
     where
       from : IsStepFrom r leads.0
       from = let at = get_from_contains (steps r) leads.0 leads.1 in step_from image facts entry r leads.0 (get_has (steps r) at.0 leads.0 at.1)
 
-      before : IsBelow t r.calls → (p : Position) × IsLive (LeadsBy steps) (start_of entry) p × (p.calls ≡ t)
-      before is = live_below r way (onward q leads ends) t is
-
-      by : Follows r.calls q.calls → (p : Position) × IsLive (LeadsBy steps) (start_of entry) p × (p.calls ≡ t)
+      by : Follows r.calls q.calls → IsStackLive t
       by (inl same) = before (subst (IsBelow t) same below)
       by (inr (inl opens)) = ⊎_elim
-          (λ (whole : t ≡ opens.0 ∷ r.calls). (q, (along q way leads, ends), opens.1 ∙ sym whole))
+          (λ (whole : t ≡ opens.0 ∷ r.calls). (q, lives, opens.1 ∙ sym whole))
           (λ (deep : IsBelow t r.calls). before deep)
           (subst (IsBelow t) opens.1 below)
       by (inr (inr leaves)) = before (subst (IsBelow t) (sym leaves.1) (inr below))
+
+  pub live_below : (q : Position) → Reaches (LeadsBy steps) (start_of entry) q → Ends (LeadsBy steps) q → (t : List Call) → IsBelow t q.calls → (p : Position) × IsLive (LeadsBy steps) (start_of entry) p × (p.calls ≡ t)
+  live_below p here ends t below = (start_of entry, (here, ends), sym below)
+  live_below p (along {q = r} q way leads) ends t below = below_step q r leads (along q way leads, ends) t below (λ is. live_below r way (onward q leads ends) t is)

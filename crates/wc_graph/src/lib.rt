@@ -4,7 +4,7 @@
 #![tactic(auto)]
 
 mod assembly;
-mod build;
+mod building;
 mod code;
 mod families;
 mod faults;
@@ -26,4 +26,4 @@ mod turns;
 mod walk;
 mod ways;
 
-pub use build::build;
+pub use building::build;
