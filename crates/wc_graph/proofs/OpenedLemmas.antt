@@ -16,6 +16,7 @@ use Rattle.wc_graph.specs.Inner.Codes.{AreFrames}
 use Rattle.wc_graph.specs.Inner.Frames.{HasStack, frame_of}
 use Rattle.wc_graph.specs.Inner.Numbers.{IsKept}
 use Rattle.wc_graph.specs.Inner.Opened.{IsOpenIn, IsBelow, AreOpenedOf, reopens}
+use Rattle.wc_graph.proofs.StatedLemmas.{same_bool}
 
 open_grown : (bs more : List Branch) (rs : List ℕ) (r : ℕ) (parent : Option ℕ) (key : ℕ) → IsOpenIn bs rs parent key → IsOpenIn (bs ++ more) (rs ++ r ∷ []) parent key
 open_grown bs more rs r None key is = is
@@ -152,12 +153,6 @@ open_test entry (c ∷ cs) key (inl opens) = ⊎_elim
     (λ (later : list_any (λ x. x.callee == key) cs ≡ true). or_right (key == entry) (c.callee == key || list_any (λ x. x.callee == key) cs) (or_right (c.callee == key) (list_any (λ x. x.callee == key) cs) later))
     (or_cases (key == entry) (list_any (λ x. x.callee == key) cs) (open_test entry cs key opens))
 open_test entry (c ∷ cs) key (inr same) = or_right (key == entry) (c.callee == key || list_any (λ x. x.callee == key) cs) (or_left (c.callee == key) (list_any (λ x. x.callee == key) cs) (eq-eqb c.callee key (sym same)))
-
-same_bool : (s t : Bool) → (s ≡ true → t ≡ true) → (t ≡ true → s ≡ true) → s ≡ t
-same_bool true true there back = refl
-same_bool true false there back = absurd (false≢true (there refl))
-same_bool false true there back = absurd (false≢true (back refl))
-same_bool false false there back = refl
 
 pub call_test : (frames : List Frame) (bs : List Branch) (rs : List ℕ) (entry : ℕ) (k root callee returns : ℕ) (calls : List Call) (t : Bool) → AreFrames frames → AreOpenedOf frames bs rs → slice_get rs k ≡ Some root → (t ≡ true ↔ IsIn bs callee callee (Some root)) → HasStack entry frames k calls → t ≡ reopens entry calls (CallTo callee returns)
 call_test frames bs rs entry k root callee returns calls t frames_are are at both stack =

@@ -7,7 +7,8 @@ use wc_base::{Addr, Fault, Trouble};
 use wc_model::{Context, Fact, Facts, Graph, Image, Range, Table};
 
 fn image_of(alloc: Global, start: Addr, bytes: Vec<u8>) -> Result<Image, AllocError>
-    requires { start + length bytes.items ≤ 2 ^ 32 }
+    requires few { length bytes.items ≤ 1000000 }
+    requires inside { start + length bytes.items ≤ 2 ^ 32 }
 {
     let range = Range {
         start,
@@ -31,7 +32,7 @@ fn graph_of(
     for word in words {
         bytes.extend_from_slice(&word.to_le_bytes())?;
     }
-    if 1 << 32 < start as usize + bytes.len() {
+    if 1_000_000 < bytes.len() || 1 << 32 < start as usize + bytes.len() {
         return Err(Trouble::Fault(Fault::NoSymbol));
     }
     let image = image_of(alloc, start, bytes)?;

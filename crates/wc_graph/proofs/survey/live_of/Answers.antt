@@ -2,6 +2,7 @@ use Rattle.std.proofs.Common.{ℕ, ◌≡◌, ◌<◌, List, Result, Ok, Err, If
 use Rattle.wc_graph.specs.Inner.Lists.{Has, Inside}
 use Rattle.wc_graph.specs.Inner.Spreads.{AllInside, IsSpread}
 use Rattle.wc_graph.proofs.SourceLemmas.{sources_inside, exits_inside}
+use Rattle.wc_graph.proofs.ResultLemmas.{if_ok}
 use Rattle.wc_graph.proofs.survey.live_of.Goals as goal
 
 pub spread-requires-clause-lists : goal.spread-requires-clause-lists
@@ -9,10 +10,6 @@ spread-requires-clause-lists c = subst AllInside (sym c.as_slice.ensures.value) 
 
 pub spread-requires-clause-from : goal.spread-requires-clause-from
 spread-requires-clause-from c = subst (λ (xs : List (Vec ℕ Global)). Inside (length xs) c.as_slice-2.result.now) (sym c.as_slice.ensures.value) (subst (Inside (length c.in_ok-sources.sources.into.items)) (sym c.as_slice-2.ensures.value) (exits_inside c.args.leaps.now c.in_ok-sources.sources c.in_ok-sources.ensures))
-
-if_ok : {T E : Type 0} (r : Result T E) {P Q : T → Type 0} → IfOk r P → ((x : T) → P x → Q x) → IfOk r Q
-if_ok (Ok x) holds then = then x holds
-if_ok (Err e) holds then = holds
 
 pub returns : goal.returns
 returns c = if_ok c.spread.result c.spread.ensures (λ v is. record {

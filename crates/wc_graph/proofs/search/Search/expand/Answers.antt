@@ -7,6 +7,7 @@ use Rattle.wc_graph.specs.Inner.Opened.{AreOpened}
 use Rattle.wc_graph.specs.Inner.Searches.{AddsTurns, HasSearched}
 use Rattle.wc_graph.specs.Inner.Ways.{AreTurns}
 use Rattle.wc_graph.proofs.SearchLemmas.{skip_on, add_on}
+use Rattle.wc_graph.proofs.ResultLemmas.{if_ok}
 use Rattle.wc_graph.proofs.search.Search.expand.Goals as goal
 
 pub returns-in-Err : goal.returns-in-Err
@@ -19,10 +20,6 @@ returns-in-Err c =
     c.skip.new.self c.in-Err.fault
     (λ facts are. subst (AreTurns c.args.image.now facts old.code.frames.keys c.args.place) c.in-Err.is (subst (λ (fs : List Frame). AreTurns c.args.image.now facts fs c.args.place c.in_ok-fault.field-0) keys (c.in_ok-fault.ensures.turns facts are)))
     c.in_ok-skip-in-Err.ensures
-
-if_ok : {T E : Type 0} (r : Result T E) {P Q : T → Type 0} → IfOk r P → ((x : T) → P x → Q x) → IfOk r Q
-if_ok (Ok x) holds then = then x holds
-if_ok (Err e) holds then = holds
 
 pub returns : goal.returns
 returns c =
