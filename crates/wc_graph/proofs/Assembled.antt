@@ -1,7 +1,7 @@
 -- The live positions, by the order of their numbers.
-use Rattle.std.proofs.Common.{ℕ, zero, suc, ◌≡◌, ◌+◌, ◌<◌, ◌≤◌, ◌↔◌, inl, inr, List, [], ◌∷◌, Some, length, get_or, refl, sym, ap, subst, ◌∙◌, arith}
-use Rattle.std.specs.List.{AllPairs, AllZip, Contains, slice_get}
-use Rattle.std.proofs.lemmas.Option.{none-some, same_Some, slice_get-get_or}
+use Rattle.std.proofs.Common.{ℕ, ◌≡◌, inl, inr, List, [], ◌∷◌, Some, get_or, refl, arith}
+use Rattle.std.specs.List.{AllPairs, AllZip, slice_get}
+use Rattle.std.proofs.lemmas.Option.{slice_get-get_or}
 use Rattle.wc_graph.specs.Inner.Lists.{Has}
 use Rattle.wc_graph.specs.Inner.Orders.{Pairs}
 use Rattle.wc_graph.proofs.OrderedLemmas.{pairs_at}

@@ -1,27 +1,22 @@
 -- Contexts, nodes and steps with their new numbers.
-use Rattle.std.proofs.Common.{ℕ, zero, suc, ◌≡◌, ◌+◌, ◌<◌, ◌≤◌, ◌⊎◌, inl, inr, ⊎_elim, Bool, true, false, List, [], ◌∷◌, ◌++◌, map, Option, None, Some, IfSome, Vec, Global, option_and_then, length, get_or, drop, append_assoc, refl, sym, ap, subst, ◌∙◌, arith}
-use Rattle.std.specs.List.{AllZip, Contains, flat_map, slice_get}
+use Rattle.std.proofs.Common.{ℕ, zero, suc, ◌≡◌, ◌+◌, ◌<◌, inl, inr, Bool, List, [], ◌∷◌, ◌++◌, map, Option, None, Some, IfSome, Vec, Global, option_and_then, length, get_or, drop, append_assoc, refl, sym, ap, subst, ◌∙◌}
+use Rattle.std.specs.List.{AllZip, flat_map, slice_get}
 use Rattle.std.proofs.lemmas.List.{drop_more}
-use Rattle.std.proofs.lemmas.Option.{none-some, same_Some, slice_get_within, slice_get-get_or, get_or_from_slice_get}
-use Rattle.wc_model.specs.declared.elf_image.Image.{Image}
-use Rattle.wc_model.specs.declared.flow_facts.Fact.{Fact}
+use Rattle.std.proofs.lemmas.Option.{none-some, same_Some, slice_get_within, get_or_from_slice_get}
 use Rattle.wc_model.specs.declared.graphs.Context.{Context}
-use Rattle.wc_model.specs.declared.graphs.Node.{Node}
 use Rattle.wc_model.specs.declared.graphs.Step.{Step as NumberedStep}
-use Rattle.wc_model.specs.declared.instructions.Insn.{Insn}
-use Rattle.wc_model.specs.Program.Graphs.{AreKept, nothing, kept, left, IsKept, IsLivePosition, IsNodeOf, IsStack, IsStepOf, IsTargetOf}
-use Rattle.wc_model.specs.Program.Positions.{Call, Position, start_of}
-use Rattle.wc_model.specs.Program.Steps.{Step, insn_at, steps_of}
+use Rattle.wc_model.specs.Program.Graphs.{AreKept, nothing, kept, left, IsStack, IsStepOf, IsTargetOf}
+use Rattle.wc_model.specs.Program.Positions.{Call, Position}
+use Rattle.wc_model.specs.Program.Steps.{Step}
 use Rattle.wc_graph.specs.declared.frames.Frame.{Frame}
 use Rattle.wc_graph.specs.declared.frames.Leap.{Leap}
-use Rattle.wc_graph.specs.declared.frames.Place.{Place}
-use Rattle.wc_graph.specs.Inner.Assemblies.{context_of, leaps_at, new_target, node_if, node_of, step_of, step_to, steps_from}
+use Rattle.wc_graph.specs.Inner.Assemblies.{context_of, leaps_at, new_target, step_of, step_to, steps_from}
 use Rattle.wc_graph.specs.Inner.Exploring.{Lands}
-use Rattle.wc_graph.specs.Inner.Frames.{HasStack, IsAt, frame_at, frame_of}
+use Rattle.wc_graph.specs.Inner.Frames.{HasStack, frame_at, frame_of}
 use Rattle.wc_graph.specs.Inner.Inverses.{IsPlacedTo}
 use Rattle.wc_graph.specs.Inner.Lists.{Has}
 use Rattle.wc_graph.specs.Inner.Numbers.{IsOnce}
-use Rattle.wc_graph.specs.Inner.Ordered.{place_at, rank_at}
+use Rattle.wc_graph.specs.Inner.Ordered.{rank_at}
 use Rattle.wc_graph.specs.Inner.Spreads.{IsMarked}
 use Rattle.wc_graph.specs.Inner.Walks.{IsListed, IsWalkable}
 use Rattle.wc_graph.proofs.ReachLemmas.{has_get}

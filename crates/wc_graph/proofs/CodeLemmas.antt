@@ -1,20 +1,20 @@
 -- Where a way leads, and the positions that are found along it.
-use Rattle.std.proofs.Common.{ℕ, zero, suc, ◌≡◌, ◌+◌, ◌<◌, ◌≤◌, ◌⊎◌, inl, inr, ⊎_elim, List, [], ◌∷◌, ◌++◌, Option, None, Some, IfSome, IsSomeAnd, length, refl, sym, ap, subst, ◌∙◌, arith}
+use Rattle.std.proofs.Common.{ℕ, ◌≡◌, ◌+◌, ◌<◌, ◌≤◌, inl, inr, ⊎_elim, List, [], ◌∷◌, ◌++◌, Option, None, Some, IfSome, length, refl, sym, ap, subst, ◌∙◌, arith}
 use Rattle.std.specs.List.{AllZip, Contains, slice_get}
 use Rattle.std.proofs.lemmas.List.{length_push}
 use Rattle.std.proofs.lemmas.Option.{none-some, same_Some, slice_get_within}
-use Rattle.wc_model.proofs.Places.{contains_from_get, get_left, get_push, get_push_cases}
+use Rattle.wc_model.proofs.Places.{get_left, get_push, get_push_cases}
 use Rattle.wc_model.specs.Program.Graphs.{IsTargetOf}
-use Rattle.wc_model.specs.Program.Positions.{Call, Position, start_of}
+use Rattle.wc_model.specs.Program.Positions.{Position, start_of}
 use Rattle.wc_model.specs.Program.Reaching.{Reaches, along as further}
 use Rattle.wc_model.specs.Program.Steps.{Step, LeadsBy}
 use Rattle.wc_graph.specs.declared.frames.Frame.{Frame}
 use Rattle.wc_graph.specs.declared.frames.Place.{Place}
 use Rattle.wc_graph.specs.declared.frames.Way.{Way}
 use Rattle.wc_graph.specs.declared.frames.Way.TheVariants.{Go, Call as CallTo, Leave}
-use Rattle.wc_graph.specs.Inner.Numbers.{IsOnce, IsKept, IsGrown, HasNumber}
-use Rattle.wc_graph.specs.Inner.Frames.{HasStack, IsAt, IsTargetPlace, frame_of, way_target}
-use Rattle.wc_graph.specs.Inner.Codes.{AreFrames, IsCodeOf, HasPlace, IsTargetNumber, IsGrownTo, HasTargetOf, IsFound}
+use Rattle.wc_graph.specs.Inner.Numbers.{IsKept, HasNumber}
+use Rattle.wc_graph.specs.Inner.Frames.{IsAt, way_target}
+use Rattle.wc_graph.specs.Inner.Codes.{AreFrames, IsCodeOf, HasPlace, IsGrownTo, HasTargetOf, IsFound}
 use Rattle.wc_graph.proofs.Interning.{once_grown, kept_grown}
 use Rattle.wc_graph.proofs.FrameLemmas.{stack_kept, at_kept, at_same, leave_root, leave_call, leave_nowhere}
 use Rattle.wc_graph.proofs.ZipLemmas.{zip_right, zip_length, zip_so, zip_push}

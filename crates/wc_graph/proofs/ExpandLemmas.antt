@@ -1,9 +1,8 @@
 -- One way more of a position that is expanded, and where no more positions are analysed.
-use Rattle.std.proofs.Common.{ℕ, zero, suc, ◌≡◌, ◌+◌, ◌<◌, ◌≤◌, List, [], ◌∷◌, ◌++◌, map, Option, None, Some, length, refl, sym, ap, subst, ◌∙◌, arith}
-use Rattle.std.specs.List.{AllZip, Contains, slice_get}
+use Rattle.std.proofs.Common.{ℕ, ◌≡◌, ◌<◌, List, [], ◌∷◌, ◌++◌, map, Option, None, Some, length, refl, sym, ap, subst, ◌∙◌}
+use Rattle.std.specs.List.{AllZip, Contains}
 use Rattle.std.proofs.lemmas.List.{map-append}
 use Rattle.std.proofs.lemmas.List.Elements.{Contains-append_left, Contains-push}
-use Rattle.std.proofs.lemmas.Option.{none-some, same_Some, slice_get_within}
 use Rattle.wc_model.proofs.Places.{get_from_contains}
 use Rattle.wc_model.specs.Program.Graphs.{IsTargetOf}
 use Rattle.wc_model.specs.Program.Positions.{Position}
@@ -15,8 +14,8 @@ use Rattle.wc_graph.specs.declared.frames.Place.{Place}
 use Rattle.wc_graph.specs.declared.frames.Turn.{Turn}
 use Rattle.wc_graph.specs.Inner.Numbers.{IsOnce, IsKept}
 use Rattle.wc_graph.specs.Inner.Frames.{IsAt, along}
-use Rattle.wc_graph.specs.Inner.Codes.{AreFrames, IsCode, IsCodeOf, HasTarget, IsFound}
-use Rattle.wc_graph.specs.Inner.Exploring.{Lands, IsMany, IsFollowed, HasWays, HasTurns, HasExpanded, IsFull}
+use Rattle.wc_graph.specs.Inner.Codes.{IsCode, HasTarget, IsFound}
+use Rattle.wc_graph.specs.Inner.Exploring.{Lands, IsMany, IsFollowed, HasWays, HasTurns, IsFull}
 use Rattle.wc_graph.proofs.CodeLemmas.{found_more}
 use Rattle.wc_graph.proofs.FrameLemmas.{at_kept, at_once}
 use Rattle.wc_graph.proofs.ZipLemmas.{zip_left, zip_length, zip_so, zip_push}

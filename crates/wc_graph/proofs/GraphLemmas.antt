@@ -1,5 +1,5 @@
 -- What is assembled is the graph of the function.
-use Rattle.std.proofs.Common.{ℕ, ◌≡◌, ◌<◌, List, Option, None, Some, length, refl, sym, ap, subst, ◌∙◌, Less}
+use Rattle.std.proofs.Common.{ℕ, ◌≡◌, List, Some, length, sym, ap, subst, ◌∙◌, Less}
 use Rattle.std.specs.List.{AllZip, slice_get}
 use Rattle.std.proofs.lemmas.Option.{same_Some}
 use Rattle.wc_model.specs.declared.elf_image.Image.{Image}
@@ -9,13 +9,13 @@ use Rattle.wc_model.specs.declared.graphs.Graph.{Graph}
 use Rattle.wc_model.specs.declared.graphs.Node.{Node}
 use Rattle.wc_model.specs.declared.graphs.Step.{Step as NumberedStep}
 use Rattle.wc_model.specs.Program.Graphs.{IsGraphOf, IsNodeOf, IsStack, IsStepOf}
-use Rattle.wc_model.specs.Program.Positions.{Call, Position, position_cmp, start_of}
+use Rattle.wc_model.specs.Program.Positions.{position_cmp, start_of}
 use Rattle.wc_graph.specs.declared.numbering.Numbering.{Numbering}
 use Rattle.wc_graph.specs.declared.survey.Survey.{Survey}
 use Rattle.wc_graph.specs.Inner.Assemblies.{IsAssembled}
 use Rattle.wc_graph.specs.Inner.Numberings.{AreRanked}
 use Rattle.wc_graph.proofs.Assembled.{pairs_all}
-use Rattle.wc_graph.proofs.KeptLemmas.{AreKeptAll, kept_all}
+use Rattle.wc_graph.proofs.KeptLemmas.{kept_all}
 use Rattle.wc_graph.proofs.NodeLemmas.{contexts, contexts_are, contexts_counted, nodes_are, stacked, stacks, stacks_sorted}
 use Rattle.wc_graph.proofs.PositionLemmas.{is_live, live_are, pairs, positions, ps, zip}
 use Rattle.wc_graph.proofs.ReachLemmas.{has_get}

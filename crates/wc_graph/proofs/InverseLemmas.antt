@@ -1,12 +1,11 @@
 -- One number more has its place.
-use Rattle.std.proofs.Common.{ℕ, ◌≡◌, ◌≢◌, ◌+◌, ◌<◌, ◌≤◌, ⊎_elim, List, Option, None, Some, length, set, refl, sym, ap, subst, ◌∙◌, arith}
+use Rattle.std.proofs.Common.{ℕ, ◌≡◌, ◌≢◌, ◌+◌, ◌<◌, ◌≤◌, ⊎_elim, List, Option, Some, length, set, sym, ap, subst, ◌∙◌, arith}
 use Rattle.std.specs.List.{slice_get}
 use Rattle.std.proofs.lemmas.Bool.{cases_eq, cases_lt}
 use Rattle.std.proofs.lemmas.List.{length-set}
-use Rattle.std.proofs.lemmas.Option.{none-some, same_Some}
+use Rattle.std.proofs.lemmas.Option.{same_Some}
 use Rattle.wc_model.proofs.Places.{get_set, get_set_cases, get_set_other}
 use Rattle.wc_graph.specs.Inner.Inverses.{IsPlacedTo}
-use Rattle.wc_graph.specs.Inner.Numbers.{IsOnce}
 
 pub placed_none : (count : ℕ) (listed : List ℕ) (places : List (Option ℕ)) → length places ≡ count → ((k i : ℕ) → slice_get places k ≡ Some (Some i) → ⊥) → IsPlacedTo count listed 0 places
 placed_none count listed places counted none = record { counted = counted; back = λ k i at. absurd (none k i at); there = λ once i k less at. absurd (omega arith) }

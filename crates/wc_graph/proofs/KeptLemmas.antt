@@ -1,7 +1,7 @@
 -- The steps that the graph keeps, with their new numbers.
-use Rattle.std.proofs.Common.{ℕ, zero, suc, ◌≡◌, ◌+◌, ◌<◌, ◌≤◌, ◌⊎◌, inl, inr, ⊎_elim, Bool, List, [], ◌∷◌, ◌++◌, Option, None, Some, Vec, Global, length, refl, sym, ap, subst, ◌∙◌, arith}
-use Rattle.std.specs.List.{AllZip, Contains, flat_map, slice_get}
-use Rattle.std.proofs.lemmas.Option.{none-some, same_Some, slice_get_within}
+use Rattle.std.proofs.Common.{ℕ, zero, suc, ◌≡◌, ◌+◌, ◌<◌, List, [], ◌∷◌, ◌++◌, Option, None, Some, Vec, Global, length, refl, sym, ap, subst, ◌∙◌, arith}
+use Rattle.std.specs.List.{AllZip, flat_map, slice_get}
+use Rattle.std.proofs.lemmas.Option.{none-some, slice_get_within}
 use Rattle.wc_model.proofs.Places.{get_within}
 use Rattle.wc_model.specs.declared.elf_image.Image.{Image}
 use Rattle.wc_model.specs.declared.flow_facts.Fact.{Fact}
@@ -17,10 +17,10 @@ use Rattle.wc_graph.specs.Inner.Exploring.{Lands}
 use Rattle.wc_graph.specs.Inner.Lists.{Has}
 use Rattle.wc_graph.specs.Inner.Numberings.{AreRanked}
 use Rattle.wc_graph.specs.Inner.Ordered.{rank_at}
-use Rattle.wc_graph.proofs.AssemblyLemmas.{HasKept, keep_all, kept_append, rank_is}
+use Rattle.wc_graph.proofs.AssemblyLemmas.{keep_all, kept_append, rank_is}
 use Rattle.wc_graph.proofs.LiveLemmas.{count, ends_are}
 use Rattle.wc_graph.proofs.PositionLemmas.{has_number, is_live, positions, ps, zip as zip_all}
-use Rattle.wc_graph.proofs.ReachLemmas.{get_has, has_get}
+use Rattle.wc_graph.proofs.ReachLemmas.{has_get}
 use Rattle.wc_graph.proofs.StackLemmas.{step_from}
 use Rattle.wc_graph.proofs.WalkLemmas.{zip_append}
 use Rattle.wc_graph.proofs.ZipLemmas.{zip_right}

@@ -1,11 +1,10 @@
 -- Along the numbered steps each node is reached from the start, and leads to the exit.
-use Rattle.std.proofs.Common.{ℕ, ◌≡◌, ◌+◌, ◌<◌, ◌≤◌, ◌⊎◌, inl, inr, ⊎_elim, List, [], ◌∷◌, ◌++◌, Option, None, Some, IfSome, length, refl, sym, ap, subst, ◌∙◌, arith}
-use Rattle.std.specs.List.{AllZip, Contains, flat_map, slice_get}
-use Rattle.std.proofs.lemmas.Option.{same_Some, slice_get-get_or, slice_get_within}
+use Rattle.std.proofs.Common.{ℕ, ◌≡◌, inl, inr, List, [], ◌∷◌, Option, Some, IfSome, sym, ap, subst, ◌∙◌, arith}
+use Rattle.std.specs.List.{Contains, flat_map, slice_get}
+use Rattle.std.proofs.lemmas.Option.{slice_get-get_or, slice_get_within}
 use Rattle.wc_model.proofs.Places.{contains_from_get, get_from_contains}
 use Rattle.wc_model.specs.declared.elf_image.Image.{Image}
 use Rattle.wc_model.specs.declared.flow_facts.Fact.{Fact}
-use Rattle.wc_model.specs.declared.graphs.Graph.{Graph}
 use Rattle.wc_model.specs.declared.graphs.Step.{Step as NumberedStep}
 use Rattle.wc_model.specs.Program.Graphs.{AreKept, nothing, kept, left, IsKept, IsLivePosition, IsStepOf, IsTargetOf, LeadsIn}
 use Rattle.wc_model.specs.Program.Positions.{Position, start_of}

@@ -1,8 +1,7 @@
 -- The numbers of live positions, and the frames of these.
-use Rattle.std.proofs.Common.{ℕ, ◌≡◌, ◌+◌, ◌<◌, ◌≤◌, ◌⊎◌, inl, inr, ⊎_elim, Bool, true, false, List, [], ◌∷◌, Option, None, Some, IfSome, Vec, Global, length, refl, sym, ap, subst, ◌∙◌, arith}
-use Rattle.std.specs.List.{AllZip, slice_get}
-use Rattle.std.proofs.lemmas.Bool.{cases_lt, false≢true}
-use Rattle.std.proofs.lemmas.Option.{none-some, same_Some, slice_get_within, slice_get-get_or, get_or_from_slice_get}
+use Rattle.std.proofs.Common.{ℕ, ◌≡◌, ◌<◌, inr, Bool, true, List, [], ◌∷◌, None, Some, length, refl, sym, ap, subst, ◌∙◌, arith}
+use Rattle.std.specs.List.{slice_get}
+use Rattle.std.proofs.lemmas.Option.{none-some, same_Some, slice_get_within, get_or_from_slice_get}
 use Rattle.wc_model.proofs.Places.{get_within}
 use Rattle.wc_model.specs.declared.elf_image.Image.{Image}
 use Rattle.wc_model.specs.declared.flow_facts.Fact.{Fact}
@@ -11,18 +10,14 @@ use Rattle.wc_model.specs.Program.Positions.{Call, Position, start_of}
 use Rattle.wc_model.specs.Program.Reaching.{Ends}
 use Rattle.wc_model.specs.Program.Steps.{LeadsBy, steps_of}
 use Rattle.wc_graph.specs.declared.frames.Frame.{Frame}
-use Rattle.wc_graph.specs.declared.frames.Leap.{Leap}
 use Rattle.wc_graph.specs.declared.frames.Place.{Place}
 use Rattle.wc_graph.specs.declared.survey.Survey.{Survey}
 use Rattle.wc_graph.specs.Inner.Frames.{HasStack, IsAt, frame_at, frame_of}
-use Rattle.wc_graph.specs.Inner.Lists.{Has}
-use Rattle.wc_graph.specs.Inner.Numbers.{IsOnce}
 use Rattle.wc_graph.specs.Inner.Ordered.{AreLiveFrames, place_at}
-use Rattle.wc_graph.specs.Inner.Searches.{IsSearchingOf}
 use Rattle.wc_graph.specs.Inner.Spreads.{IsMarked}
 use Rattle.wc_graph.specs.Inner.Surveys.{IsSurvey}
 use Rattle.wc_graph.specs.Inner.Walks.{IsWalkable}
-use Rattle.wc_graph.proofs.FrameLemmas.{stack_once, stack_same}
+use Rattle.wc_graph.proofs.FrameLemmas.{stack_once}
 use Rattle.wc_graph.proofs.ReachLemmas.{every, live_marks}
 use Rattle.wc_graph.proofs.StackLemmas.{IsBelow, below_itself, live_below}
 use Rattle.wc_graph.proofs.ZipLemmas.{zip_left, zip_length}

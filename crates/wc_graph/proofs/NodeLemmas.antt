@@ -1,10 +1,9 @@
 -- The nodes and the contexts stand for the live positions and their stacks.
-use Rattle.std.proofs.Common.{ℕ, zero, suc, ◌≡◌, ◌+◌, ◌<◌, ◌≤◌, ◌↔◌, ◌⊎◌, inl, inr, ⊎_elim, Bool, List, [], ◌∷◌, ◌++◌, map, reverse, Option, None, Some, option_and_then, length, refl, sym, ap, subst, ◌∙◌, arith, Less}
+use Rattle.std.proofs.Common.{ℕ, zero, suc, ◌≡◌, ◌↔◌, inl, inr, List, [], ◌∷◌, ◌++◌, map, reverse, Option, None, Some, option_and_then, length, refl, sym, ap, subst, ◌∙◌, Less}
 use Rattle.std.specs.Cmp.Lexicographic.{slice_cmp}
 use Rattle.std.specs.List.{AllPairs, AllZip, Contains, flat_map, slice_get}
 use Rattle.std.proofs.lemmas.List.{length-map, reverse-reverse}
 use Rattle.std.proofs.lemmas.Option.{none-some, same_Some}
-use Rattle.wc_base.specs.declared.faults.Fault.{Fault}
 use Rattle.wc_base.specs.declared.faults.Fault.TheVariants.{OutOfText, UnknownInstruction}
 use Rattle.wc_model.proofs.Places.{contains_from_get, get_from_contains}
 use Rattle.wc_model.specs.declared.elf_image.Image.{Image}
@@ -25,15 +24,15 @@ use Rattle.wc_graph.specs.Inner.Assemblies.{context_of, node_if, node_of}
 use Rattle.wc_graph.specs.Inner.Frames.{HasStack}
 use Rattle.wc_graph.specs.Inner.Lists.{Has}
 use Rattle.wc_graph.specs.Inner.Numberings.{AreRanked}
-use Rattle.wc_graph.specs.Inner.Ordered.{place_at, rank_at}
+use Rattle.wc_graph.specs.Inner.Ordered.{place_at}
 use Rattle.wc_graph.specs.Inner.Orders.{Before, Pairs}
 use Rattle.wc_graph.specs.Inner.Walks.{IsOn}
 use Rattle.wc_graph.proofs.Assembled.{pairs_all}
 use Rattle.wc_graph.proofs.AssemblyLemmas.{context_stack, get_map}
 use Rattle.wc_graph.proofs.FrameLemmas.{stack_same}
-use Rattle.wc_graph.proofs.LiveLemmas.{frame_live, live_number, marked_within, place_of, stack_of}
+use Rattle.wc_graph.proofs.LiveLemmas.{live_number, place_of, stack_of}
 use Rattle.wc_graph.proofs.OrderLemmas.{before_less}
-use Rattle.wc_graph.proofs.PositionLemmas.{IsAs, is_live, place_rank, positions, rank_is, stack_at, zip_as}
+use Rattle.wc_graph.proofs.PositionLemmas.{IsAs, place_rank, positions, stack_at, zip_as}
 use Rattle.wc_graph.proofs.ReachLemmas.{get_has}
 use Rattle.wc_graph.proofs.RisingLemmas.{has_map}
 use Rattle.wc_graph.proofs.ZipLemmas.{zip_left, zip_length}

@@ -1,6 +1,6 @@
 -- What the numbers of the graph keep, for the phases after it.
-use Rattle.std.proofs.Common.{ℕ, ◌≡◌, ◌+◌, ◌<◌, ◌≤◌, ◌^◌, ◌⊎◌, inl, inr, ⊎_elim, Bool, List, [], ◌∷◌, ◌++◌, map, reverse, Option, None, Some, IfSome, Vec, Global, option_and_then, length, get_or, refl, sym, ap, subst, ◌∙◌, arith}
-use Rattle.std.specs.List.{All, AllPairs, AllZip, flat_map, slice_get}
+use Rattle.std.proofs.Common.{ℕ, ◌≡◌, ◌+◌, ◌<◌, ◌≤◌, inl, inr, ⊎_elim, Bool, List, [], ◌∷◌, ◌++◌, reverse, Option, None, Some, IfSome, Vec, Global, option_and_then, length, get_or, refl, sym, ap, subst, ◌∙◌, arith}
+use Rattle.std.specs.List.{All, AllZip, flat_map, slice_get}
 use Rattle.std.proofs.lemmas.Bool.{cases_lt}
 use Rattle.std.proofs.lemmas.List.{reverse-append, reverse-reverse}
 use Rattle.std.proofs.lemmas.Option.{none-some, same_Some, get_or_from_slice_get, slice_get_within, slice_get-get_or}
@@ -11,14 +11,14 @@ use Rattle.wc_model.specs.declared.graphs.Context.{Context}
 use Rattle.wc_model.specs.declared.graphs.Graph.{Graph}
 use Rattle.wc_model.specs.declared.graphs.Node.{Node}
 use Rattle.wc_model.specs.declared.graphs.Step.{Step as NumberedStep}
-use Rattle.wc_model.specs.Program.Graphs.{IsGraph, IsGraphOf, IsNodeOf, IsStack, IsStepOf, IsTargetOf}
+use Rattle.wc_model.specs.Program.Graphs.{IsGraph, IsNodeOf, IsStack, IsStepOf, IsTargetOf}
 use Rattle.wc_model.specs.Program.Positions.{Call, Position, start_of}
 use Rattle.wc_model.specs.Program.Steps.{steps_of}
 use Rattle.wc_graph.specs.declared.frames.Frame.{Frame}
 use Rattle.wc_graph.specs.declared.frames.Leap.{Leap}
 use Rattle.wc_graph.specs.declared.numbering.Numbering.{Numbering}
 use Rattle.wc_graph.specs.declared.survey.Survey.{Survey}
-use Rattle.wc_graph.specs.Inner.Assemblies.{IsAssembled, context_of, leaps_at, step_of, step_to, new_target, steps_from}
+use Rattle.wc_graph.specs.Inner.Assemblies.{IsAssembled, leaps_at, step_of, step_to, new_target, steps_from}
 use Rattle.wc_graph.specs.Inner.Frames.{HasStack, frame_at, frame_of}
 use Rattle.wc_graph.specs.Inner.Lists.{Has}
 use Rattle.wc_graph.specs.Inner.Numberings.{AreRanked}

@@ -1,17 +1,16 @@
 -- One frame more with its open functions, and what the sets say of a call stack.
-use Rattle.std.proofs.Common.{ℕ, zero, suc, ◌≡◌, ◌+◌, ◌<◌, ◌≤◌, ◌↔◌, ◌⊎◌, inl, inr, ⊎_elim, ◌==◌, ◌||◌, Bool, true, false, IsTrue, List, [], ◌∷◌, ◌++◌, Option, None, Some, IfSome, length, refl, sym, ap, subst, ◌∙◌, arith}
+use Rattle.std.proofs.Common.{ℕ, ◌≡◌, ◌<◌, ◌≤◌, ◌↔◌, ◌⊎◌, inl, inr, ⊎_elim, ◌==◌, ◌||◌, Bool, true, false, IsTrue, List, [], ◌∷◌, ◌++◌, Option, None, Some, IfSome, length, refl, sym, ap, subst, ◌∙◌, arith}
 use Rattle.std.specs.List.{list_any, slice_get}
 use Rattle.std.proofs.lemmas.Bool.{false≢true, eqb-true, eq-eqb}
 use Rattle.std.proofs.lemmas.List.{length_push, length-append}
-use Rattle.std.proofs.lemmas.Option.{none-some, same_Some, slice_get_within}
-use Rattle.wc_model.proofs.Places.{get_left, get_push, get_push_cases, get_within}
+use Rattle.std.proofs.lemmas.Option.{same_Some, slice_get_within}
+use Rattle.wc_model.proofs.Places.{get_left, get_push_cases, get_within}
 use Rattle.wc_model.specs.Program.Positions.{Call}
 use Rattle.wc_graph.specs.declared.keys.Branch.{Branch}
 use Rattle.wc_graph.specs.Inner.Keys.{AreBranches, IsIn, HasKey, after}
 use Rattle.wc_graph.proofs.KeysLemmas.{in_grown, in_shrunk, none_in, get_front}
 use Rattle.wc_graph.specs.declared.frames.Frame.{Frame}
-use Rattle.wc_graph.specs.declared.frames.Way.{Way}
-use Rattle.wc_graph.specs.declared.frames.Way.TheVariants.{Go, Call as CallTo, Leave}
+use Rattle.wc_graph.specs.declared.frames.Way.TheVariants.{Call as CallTo}
 use Rattle.wc_graph.specs.Inner.Codes.{AreFrames}
 use Rattle.wc_graph.specs.Inner.Frames.{HasStack, frame_of}
 use Rattle.wc_graph.specs.Inner.Numbers.{IsKept}

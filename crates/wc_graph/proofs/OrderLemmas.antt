@@ -1,12 +1,12 @@
 -- One stack more in order, and those that go on from it.
-use Rattle.std.proofs.Common.{ℕ, ◌≡◌, ◌+◌, ◌<◌, ◌≤◌, ◌⊎◌, inl, inr, ⊎_elim, List, [], ◌∷◌, ◌++◌, map, reverse, refl, sym, ap, subst, ◌∙◌, arith, append_assoc, append-nil, nat_cmp, Less, Equal}
+use Rattle.std.proofs.Common.{ℕ, ◌≡◌, ◌⊎◌, inl, inr, ⊎_elim, List, [], ◌∷◌, ◌++◌, map, refl, sym, ap, subst, ◌∙◌, arith, append_assoc, append-nil, nat_cmp, Less, Equal}
 use Rattle.std.specs.Cmp.{nat_cmp_is}
 use Rattle.std.specs.Cmp.Lexicographic.{slice_cmp}
 use Rattle.std.specs.Ordering.{ordering_then}
 use Rattle.wc_model.specs.Program.Positions.{Call, call_cmp}
 use Rattle.wc_graph.specs.Inner.Lists.{Has}
 use Rattle.wc_graph.specs.Inner.Orders.{CallLess, Before, Pairs, Parts, IsPreorder}
-use Rattle.wc_graph.proofs.RisingLemmas.{has_append, append_has, has_map}
+use Rattle.wc_graph.proofs.RisingLemmas.{has_append, has_map}
 
 call_trans : (a b c : Call) → CallLess a b → CallLess b c → CallLess a c
 call_trans a b c (inl less) (inl more) = inl (omega arith)

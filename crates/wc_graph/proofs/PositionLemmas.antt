@@ -1,30 +1,30 @@
 -- The live positions in order.
-use Rattle.std.proofs.Common.{ℕ, ◌≡◌, ◌+◌, ◌<◌, ◌≤◌, ◌↔◌, ◌⊎◌, inl, inr, ⊎_elim, Bool, List, [], ◌∷◌, reverse, Option, None, Some, length, refl, sym, ap, subst, ◌∙◌, arith, Less}
-use Rattle.std.specs.List.{AllPairs, AllZip, Contains, slice_get}
+use Rattle.std.proofs.Common.{ℕ, ◌≡◌, ◌<◌, ◌↔◌, inl, inr, ⊎_elim, List, [], ◌∷◌, reverse, Some, length, refl, sym, ap, subst, ◌∙◌, arith, Less}
+use Rattle.std.specs.List.{AllZip, Contains, slice_get}
 use Rattle.std.proofs.lemmas.List.{reverse-reverse}
 use Rattle.std.proofs.lemmas.Option.{same_Some}
 use Rattle.wc_model.proofs.Places.{contains_from_get, get_from_contains}
 use Rattle.wc_model.specs.declared.elf_image.Image.{Image}
 use Rattle.wc_model.specs.declared.flow_facts.Fact.{Fact}
 use Rattle.wc_model.specs.Program.Graphs.{IsLivePosition}
-use Rattle.wc_model.specs.Program.Positions.{Call, Position, position_cmp, start_of}
+use Rattle.wc_model.specs.Program.Positions.{Call, Position, position_cmp}
 use Rattle.wc_graph.specs.declared.frames.Frame.{Frame}
 use Rattle.wc_graph.specs.declared.frames.Place.{Place}
 use Rattle.wc_graph.specs.declared.numbering.Numbering.{Numbering}
 use Rattle.wc_graph.specs.declared.survey.Survey.{Survey}
-use Rattle.wc_graph.specs.Inner.Frames.{HasStack, IsAt}
+use Rattle.wc_graph.specs.Inner.Frames.{HasStack}
 use Rattle.wc_graph.specs.Inner.Lists.{Has}
 use Rattle.wc_graph.specs.Inner.Numberings.{AreRanked}
 use Rattle.wc_graph.specs.Inner.Ordered.{place_at, rank_at}
 use Rattle.wc_graph.specs.Inner.Orders.{Before, Pairs}
 use Rattle.wc_graph.specs.Inner.Spreads.{IsMarked}
 use Rattle.wc_graph.specs.Inner.Walks.{IsOn}
-use Rattle.wc_graph.proofs.Assembled.{pairs_all, zip_exists}
+use Rattle.wc_graph.proofs.Assembled.{zip_exists}
 use Rattle.wc_graph.proofs.AssemblyLemmas.{rank_of}
 use Rattle.wc_graph.proofs.FrameLemmas.{stack_same}
-use Rattle.wc_graph.proofs.LiveLemmas.{frame_live, live_number, marked_within, number_live, place_of, ps_of}
+use Rattle.wc_graph.proofs.LiveLemmas.{live_number, marked_within, number_live, place_of, ps_of}
 use Rattle.wc_graph.proofs.OrderedLemmas.{IsSooner, in_order, order_in, pairs_at, pairs_zip, position_before, position_beside, sooner}
-use Rattle.wc_graph.proofs.ReachLemmas.{get_has, has_get}
+use Rattle.wc_graph.proofs.ReachLemmas.{has_get}
 use Rattle.wc_graph.proofs.ZipLemmas.{zip_left, zip_right}
 
 zip_told : {A B : Type 0} (R S : A → B → Type 0) (xs : List A) (ys : List B) → ((x : A) (y : B) → Has xs x → R x y → S x y) → AllZip R xs ys → AllZip S xs ys

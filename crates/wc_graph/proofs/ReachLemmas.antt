@@ -1,12 +1,12 @@
 -- What a complete exploration says: each reached position has a number, and the first fault is that of a number.
-use Rattle.std.proofs.Common.{ℕ, zero, suc, ◌≡◌, ◌+◌, ◌<◌, ◌≤◌, ◌⊎◌, inl, inr, ⊎_elim, Bool, List, [], ◌∷◌, ◌++◌, Option, None, Some, Vec, Global, length, refl, sym, ap, subst, ◌∙◌, arith}
+use Rattle.std.proofs.Common.{ℕ, zero, suc, ◌≡◌, ◌+◌, ◌<◌, ◌≤◌, inl, inr, ⊎_elim, Bool, List, [], ◌∷◌, Option, None, Some, Vec, Global, length, refl, sym, ap, subst, ◌∙◌, arith}
 use Rattle.std.specs.List.{AllZip, Contains, slice_get}
 use Rattle.std.proofs.lemmas.Option.{none-some, same_Some, slice_get_within}
 use Rattle.wc_base.specs.declared.faults.Fault.{Fault}
 use Rattle.wc_model.proofs.Places.{contains_from_get, get_from_contains, get_within}
 use Rattle.wc_model.specs.declared.elf_image.Image.{Image}
 use Rattle.wc_model.specs.declared.flow_facts.Fact.{Fact}
-use Rattle.wc_model.specs.Program.Graphs.{IsFirstFault, IsReached, IsSound, IsTargetOf, IsTooLarge}
+use Rattle.wc_model.specs.Program.Graphs.{IsFirstFault, IsSound, IsTargetOf, IsTooLarge}
 use Rattle.wc_model.specs.Program.Positions.{Position, start_of}
 use Rattle.wc_model.specs.Program.Reaching.{Reaches, here, along, Ends, exits, onward}
 use Rattle.wc_model.specs.Program.Steps.{Step, LeadsBy, fault_at, steps_of}
@@ -14,7 +14,7 @@ use Rattle.wc_graph.specs.declared.faults.Faulty.{Faulty}
 use Rattle.wc_graph.specs.declared.frames.Frame.{Frame}
 use Rattle.wc_graph.specs.declared.frames.Leap.{Leap}
 use Rattle.wc_graph.specs.declared.frames.Place.{Place}
-use Rattle.wc_graph.specs.Inner.Exploring.{Lands, IsMany}
+use Rattle.wc_graph.specs.Inner.Exploring.{Lands}
 use Rattle.wc_graph.specs.Inner.Faults.{IsAmong, IsLeast}
 use Rattle.wc_graph.specs.Inner.Frames.{IsAt}
 use Rattle.wc_graph.specs.Inner.Lists.{Has, Inside}
@@ -23,7 +23,7 @@ use Rattle.wc_graph.specs.Inner.Searches.{IsSearchingOf}
 use Rattle.wc_graph.specs.Inner.Sources.{AreSources, edges_from}
 use Rattle.wc_graph.specs.declared.sources.Sources.{Sources}
 use Rattle.wc_graph.specs.Inner.Spreads.{IsMarked, Spread, begins, goes, IsSpread}
-use Rattle.wc_graph.proofs.SourceLemmas.{IsLeapOf, edge_leap, leap_edge}
+use Rattle.wc_graph.proofs.SourceLemmas.{edge_leap, leap_edge}
 use Rattle.wc_graph.proofs.WalkLemmas.{few_apart, zip_has}
 use Rattle.wc_graph.proofs.ZipLemmas.{zip_left, zip_right, zip_length}
 

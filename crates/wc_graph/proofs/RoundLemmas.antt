@@ -1,5 +1,5 @@
 -- One round of the walk over the frames.
-use Rattle.std.proofs.Common.{ℕ, ◌≡◌, ◌+◌, ◌<◌, ◌≤◌, ◌⊎◌, inl, inr, ⊎_elim, Bool, List, [], ◌∷◌, ◌++◌, map, reverse, Option, None, Some, Vec, Global, option_to_list, length, refl, sym, ap, subst, ◌∙◌, arith}
+use Rattle.std.proofs.Common.{ℕ, ◌≡◌, ◌<◌, ◌≤◌, ◌⊎◌, inl, inr, ⊎_elim, Bool, List, [], ◌∷◌, ◌++◌, map, reverse, Option, Some, Vec, Global, option_to_list, length, refl, sym, ap, subst, ◌∙◌, arith}
 use Rattle.std.specs.List.{slice_get}
 use Rattle.std.proofs.lemmas.List.{reverse-append, reverse-reverse}
 use Rattle.wc_graph.specs.declared.frames.Frame.{Frame}
@@ -8,7 +8,6 @@ use Rattle.wc_graph.specs.Inner.Codes.{AreFrames}
 use Rattle.wc_graph.specs.Inner.Families.{AreFalling, IsFamily, key_at}
 use Rattle.wc_graph.specs.Inner.Frames.{frame_at}
 use Rattle.wc_graph.specs.Inner.Lists.{Has, Inside}
-use Rattle.wc_graph.specs.Inner.Sources.{Edge}
 use Rattle.wc_graph.specs.Inner.Spreads.{IsMarked}
 use Rattle.wc_graph.specs.Inner.Stated.{low, with_all}
 use Rattle.wc_graph.specs.Inner.Walks.{IsWalkable, IsWalking}

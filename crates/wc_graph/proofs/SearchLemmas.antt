@@ -1,5 +1,5 @@
 -- One position more is expanded.
-use Rattle.std.proofs.Common.{ℕ, zero, suc, ◌≡◌, ◌+◌, ◌<◌, ◌≤◌, ◌⊎◌, inl, inr, ⊎_elim, List, [], ◌∷◌, ◌++◌, map, Option, None, Some, IfSome, Bool, true, false, Result, Ok, Err, Vec, Global, length, get_or, refl, sym, ap, subst, ◌∙◌, arith}
+use Rattle.std.proofs.Common.{ℕ, zero, suc, ◌≡◌, ◌<◌, ◌≤◌, ⊎_elim, List, [], ◌∷◌, ◌++◌, map, Option, None, Some, IfSome, Bool, true, false, Ok, Err, Vec, Global, length, refl, sym, ap, subst, ◌∙◌, arith}
 use Rattle.std.specs.List.{AllZip, Contains, slice_get}
 use Rattle.std.proofs.lemmas.Bool.{cases_lt}
 use Rattle.std.proofs.lemmas.List.{length_push, length-map, get_or-map}
@@ -19,13 +19,12 @@ use Rattle.wc_graph.specs.declared.frames.Place.{Place}
 use Rattle.wc_graph.specs.declared.frames.Turn.{Turn}
 use Rattle.wc_graph.specs.declared.opened.Opened.{Opened}
 use Rattle.wc_graph.specs.declared.search.Search.{Search}
-use Rattle.wc_graph.specs.Inner.Numbers.{IsKept}
 use Rattle.wc_graph.specs.Inner.Frames.{HasStack, IsAt, along, frame_of}
-use Rattle.wc_graph.specs.Inner.Codes.{AreFrames, IsCode, IsCodeOf, IsFound, IsNew}
-use Rattle.wc_graph.specs.Inner.Exploring.{Lands, IsMany, IsFollowed, HasWays, HasTurns, HasExpanded, IsFull}
+use Rattle.wc_graph.specs.Inner.Codes.{IsCodeOf, IsNew}
+use Rattle.wc_graph.specs.Inner.Exploring.{Lands, IsFollowed, HasWays}
 use Rattle.wc_graph.specs.Inner.Faults.{IsAmong, IsLeast}
 use Rattle.wc_graph.specs.Inner.Opened.{AreOpened}
-use Rattle.wc_graph.specs.Inner.Searches.{IsReady, IsSearchingOf, IsSearching, HasSkipped, HasAdded, AddsTurns, HasSearched, IsSearched}
+use Rattle.wc_graph.specs.Inner.Searches.{IsReady, IsSearchingOf, HasSkipped, AddsTurns, HasSearched, IsSearched}
 use Rattle.wc_graph.specs.Inner.Stated.{AreStated}
 use Rattle.wc_graph.specs.Inner.Ways.{AreTurns}
 use Rattle.wc_graph.specs.declared.stated.Stated.{Stated}
@@ -33,7 +32,7 @@ use Rattle.wc_graph.proofs.ExpandLemmas.{lands_kept}
 use Rattle.wc_graph.proofs.Interning.{kept_length}
 use Rattle.wc_graph.proofs.FaultLemmas.{among_push, among_left, among_last}
 use Rattle.wc_graph.proofs.OpenedLemmas.{opened_kept}
-use Rattle.wc_graph.proofs.ZipLemmas.{zip_right, zip_length, zip_so}
+use Rattle.wc_graph.proofs.ZipLemmas.{zip_right, zip_so}
 
 pub contains_map : {X Y : Type 0} (f : X → Y) (xs : List X) (x : X) → Contains xs x → Contains (map f xs) (f x)
 contains_map f xs x among =

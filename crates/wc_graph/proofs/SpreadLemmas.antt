@@ -1,13 +1,13 @@
 -- Marks spread along lists of neighbours.
-use Rattle.std.proofs.Common.{ℕ, zero, suc, ◌≡◌, ◌≢◌, ◌+◌, ◌<◌, ◌≤◌, ◌↔◌, ◌⊎◌, inl, inr, ⊎_elim, Bool, true, false, List, [], ◌∷◌, ◌++◌, Some, Vec, Global, length, set, get_or, refl, sym, ap, subst, ◌∙◌, arith}
+use Rattle.std.proofs.Common.{ℕ, zero, suc, ◌≡◌, ◌≢◌, ◌+◌, ◌<◌, ◌⊎◌, inl, inr, ⊎_elim, Bool, true, false, List, [], ◌∷◌, ◌++◌, Some, Vec, Global, length, set, get_or, refl, sym, ap, subst, ◌∙◌, arith}
 use Rattle.std.specs.List.{slice_get}
 use Rattle.std.proofs.lemmas.List.{length_push, length-set}
 use Rattle.std.proofs.lemmas.Option.{none-some, same_Some, slice_get_within}
 use Rattle.std.proofs.lemmas.Bool.{false≢true}
 use Rattle.wc_model.proofs.Places.{get_set, get_set_cases, get_set_other}
 use Rattle.wc_graph.specs.declared.live.Marked.{Marked}
-use Rattle.wc_graph.specs.Inner.Lists.{Has, Inside}
-use Rattle.wc_graph.specs.Inner.Spreads.{IsMarked, unmarked, AllInside, IsUnmarked, Marks, Spread, begins, goes, IsSpreading, IsSpread}
+use Rattle.wc_graph.specs.Inner.Lists.{Has}
+use Rattle.wc_graph.specs.Inner.Spreads.{IsMarked, unmarked, IsUnmarked, Marks, Spread, begins, goes, IsSpreading, IsSpread}
 use Rattle.wc_graph.proofs.RisingLemmas.{has_append, append_has}
 
 unmarked_set : (marks : List Bool) (k : ℕ) → slice_get marks k ≡ Some false → unmarked (set marks k true) + 1 ≡ unmarked marks

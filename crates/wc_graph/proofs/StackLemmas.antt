@@ -1,7 +1,7 @@
 -- The call stacks along the steps of positions, and that what stands below the stack of a live position is the stack
 -- of a live position.
-use Rattle.std.proofs.Common.{ℕ, ◌≡◌, ◌+◌, ◌%◌, ◌^◌, ◌⊎◌, inl, inr, ⊎_elim, Bool, true, false, if◌then◌else◌, List, [], ◌∷◌, ◌++◌, map, Option, None, Some, IfSome, refl, sym, ap, subst, ◌∙◌}
-use Rattle.std.specs.List.{Contains, flat_map}
+use Rattle.std.proofs.Common.{ℕ, ◌≡◌, ◌+◌, ◌%◌, ◌^◌, ◌⊎◌, inl, inr, ⊎_elim, Bool, true, false, if◌then◌else◌, List, [], ◌∷◌, map, Option, None, Some, IfSome, refl, sym, subst, ◌∙◌}
+use Rattle.std.specs.List.{flat_map}
 use Rattle.wc_base.specs.declared.faults.Fault.{Fault}
 use Rattle.wc_model.proofs.Places.{get_from_contains}
 use Rattle.wc_model.specs.declared.elf_image.Image.{Image}

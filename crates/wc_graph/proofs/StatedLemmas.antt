@@ -1,27 +1,36 @@
 -- What the sets of numbers say of the facts.
-use Rattle.std.proofs.Common.{ℕ, zero, suc, ◌≡◌, ◌+◌, ◌*◌, ◌/◌, ◌%◌, ◌<◌, ◌≤◌, ◌⊎◌, inl, inr, ⊎_elim, ◌==◌, ◌&&◌, ◌||◌, Bool, true, false, not, if◌then◌else◌, List, [], ◌∷◌, ◌++◌, map, filter, length, get_or, drop, take, refl, sym, ap, subst, ◌∙◌, arith, nat_cmp, Less, Equal, Greater, eqb}
-use Rattle.std.specs.BTreeMap.{is_at}
+use Rattle.std.proofs.Common.{ℕ, zero, suc, ◌≡◌, ◌+◌, ◌*◌, ◌/◌, ◌<◌, ◌≤◌, ◌⊎◌, inl, inr, ⊎_elim, ◌==◌, ◌&&◌, ◌||◌, Bool, true, false, not, if◌then◌else◌, List, [], ◌∷◌, ◌++◌, map, filter, length, get_or, drop, refl, sym, ap, subst, ◌∙◌, arith, nat_cmp, Less, Equal, Greater, append_assoc, append-nil}
 use Rattle.std.specs.BTreeMap.Range.{range_contains}
-use Rattle.std.specs.declared.ops.Bound.{Bound}
 use Rattle.std.specs.declared.ops.Bound.TheVariants.{Included}
-use Rattle.std.specs.List.{All, flat_map, list_any}
+use Rattle.std.specs.List.{flat_map}
 use Rattle.std.specs.Ordering.{is_le, is_lt, is_eq}
 use Rattle.std.specs.Cmp.{nat_cmp_is}
-use Rattle.std.proofs.lemmas.Bool.{cases_lt, cases_eq, false≢true, true≢false, eqb-true, eq-eqb}
+use Rattle.std.proofs.lemmas.Bool.{cases_lt, cases_eq, false≢true, eqb-true, eq-eqb}
 use Rattle.std.proofs.lemmas.Bool.Decides.{eqb_tells}
 use Rattle.std.proofs.lemmas.List.{drop_more, length-append, get_or_append_left}
 use Rattle.std.proofs.lemmas.List.Concat.{flat_map-append}
-use Rattle.std.proofs.lemmas.List.Elements.{All-append, All-head, All-tail, All-nil, filter_agree}
+use Rattle.std.proofs.lemmas.List.Elements.{All-append, All-head, All-tail, All-nil}
 use Rattle.wc_model.specs.declared.flow_facts.Fact.{Fact}
 use Rattle.wc_model.specs.declared.flow_facts.Fact.TheVariants.{Loop, Multibranch, Multicall, Noreturn, Checksum, Limit}
 use Rattle.wc_model.specs.Program.Steps.{with_target, rising_once, jumps_stated, calls_stated, jump_targets, call_targets, is_noreturn}
 use Rattle.wc_graph.specs.declared.stated.Stated.{Stated}
 use Rattle.wc_graph.specs.Inner.Stated.{key_of, is_of, low, targets_in, with_all, has_number, jump_keys, call_keys, noreturn_keys, targets_of, Fits, Adds, AreStated}
-use Rattle.wc_graph.proofs.RisingLemmas.{Has, Rises, rises_same, all_append, all_rises, all_in, in_all, once_rises, once_in, in_once, has_append, append_has, has_map, map_has, has_filter, filter_has, filter_rises, target_in, in_target, key_target}
+use Rattle.wc_graph.proofs.RisingLemmas.{Has, rises_same, all_append, all_rises, all_in, in_all, once_rises, once_in, in_once, has_append, append_has, has_map, map_has, has_filter, filter_has, filter_rises}
 
 -- one key more, from the front of what is to come
 pub next_key : (f : ℕ → ℕ) (keys new to : List ℕ) (i d : ℕ) → i < length to → new ≡ with_target (f (get_or to i d)) keys → with_all new (map f (drop (i + 1) to)) ≡ with_all keys (map f (drop i to))
 next_key f keys new to i d less is = ap (λ (xs : List ℕ). with_all xs (map f (drop (i + 1) to))) is ∙ sym (ap (λ (xs : List ℕ). with_all keys (map f xs)) (drop_more to i d less))
+
+-- the lowest digits of one key more, and of all
+pub low_more : (found new later rest all : List ℕ) (key : ℕ) → rest ≡ key ∷ later → new ≡ found ++ low key ∷ [] → found ++ map low rest ≡ all → new ++ map low later ≡ all
+low_more found new later rest all key rest_is new_is so_far =
+    ap (λ (xs : List ℕ). xs ++ map low later) new_is
+    ∙ append_assoc found (low key ∷ []) (map low later)
+    ∙ ap (λ (xs : List ℕ). found ++ map low xs) (sym rest_is)
+    ∙ so_far
+
+pub low_all : (found rest all : List ℕ) → rest ≡ [] → found ++ map low rest ≡ all → found ≡ all
+low_all found rest all none so_far = sym (append-nil found) ∙ ap (λ (xs : List ℕ). found ++ map low xs) (sym none) ∙ so_far
 
 append_nothing : (xs ys : List ℕ) → xs ++ ys ≡ xs ++ (ys ++ [])
 append_nothing [] [] = refl

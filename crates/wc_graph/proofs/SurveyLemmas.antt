@@ -1,15 +1,12 @@
 -- Why there is no graph, from a complete exploration.
-use Rattle.std.proofs.Common.{ℕ, ◌≡◌, ◌<◌, ◌≤◌, Bool, List, Option, None, Some, IfSome, Vec, Global, length, refl, sym, ap, subst, ◌∙◌, arith}
-use Rattle.std.specs.List.{slice_get}
-use Rattle.std.proofs.lemmas.Option.{none-some, same_Some, slice_get_within}
-use Rattle.wc_base.specs.declared.faults.Fault.{Fault}
+use Rattle.std.proofs.Common.{ℕ, ◌≡◌, ◌<◌, ◌≤◌, Bool, List, Option, None, Some, IfSome, Vec, Global, length, sym, subst, arith}
+use Rattle.std.proofs.lemmas.Option.{slice_get_within}
 use Rattle.wc_base.specs.declared.faults.Fault.TheVariants.{TooLarge, NoExit}
 use Rattle.wc_model.specs.declared.elf_image.Image.{Image}
 use Rattle.wc_model.specs.declared.flow_facts.Fact.{Fact}
 use Rattle.wc_model.specs.Program.Graphs.{IsGraphFault, IsTargetOf, large, faulty, endless}
 use Rattle.wc_model.specs.Program.Positions.{Position, start_of}
-use Rattle.wc_model.specs.Program.Reaching.{Ends}
-use Rattle.wc_model.specs.Program.Steps.{LeadsBy, steps_of}
+use Rattle.wc_model.specs.Program.Steps.{steps_of}
 use Rattle.wc_graph.specs.declared.code.Code.{Code}
 use Rattle.wc_graph.specs.declared.faults.Faulty.{Faulty}
 use Rattle.wc_graph.specs.declared.frames.Leap.{Leap}

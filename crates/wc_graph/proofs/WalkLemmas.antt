@@ -1,25 +1,24 @@
 -- The walk over the live frames: one frame more, and those that stand on it.
-use Rattle.std.proofs.Common.{ℕ, zero, suc, ◌≡◌, ◌+◌, ◌*◌, ◌%◌, ◌<◌, ◌≤◌, ◌⊎◌, ◌||◌, inl, inr, ⊎_elim, Bool, true, false, List, [], ◌∷◌, ◌++◌, map, reverse, Option, None, Some, length, get_or, eqb, refl, sym, ap, subst, ◌∙◌, arith}
+use Rattle.std.proofs.Common.{ℕ, ◌≡◌, ◌+◌, ◌*◌, ◌<◌, ◌≤◌, ◌⊎◌, ◌||◌, inl, inr, ⊎_elim, Bool, true, false, List, [], ◌∷◌, ◌++◌, map, reverse, Option, None, Some, length, eqb, refl, sym, ap, subst, ◌∙◌, arith}
 use Rattle.std.specs.List.{AllZip, AllByRecursion, IsDistinct, list_any, slice_get}
-use Rattle.std.proofs.lemmas.Bool.{cases_lt, cases_eq, false≢true, eqb-true}
+use Rattle.std.proofs.lemmas.Bool.{cases_lt, false≢true}
 use Rattle.std.proofs.lemmas.Bool.Decides.{eqb_tells}
-use Rattle.std.proofs.lemmas.List.{length_push, reverse-append, reverse-reverse}
+use Rattle.std.proofs.lemmas.List.{reverse-append, reverse-reverse}
 use Rattle.std.proofs.lemmas.Map.Steps.{length-le_from_distinct_below}
-use Rattle.std.proofs.lemmas.Option.{none-some, same_Some, slice_get_within, slice_get-get_or, get_or_from_slice_get}
+use Rattle.std.proofs.lemmas.Option.{slice_get_within, slice_get-get_or, get_or_from_slice_get}
 use Rattle.wc_model.specs.Program.Positions.{Call}
 use Rattle.wc_graph.specs.declared.frames.Frame.{Frame}
 use Rattle.wc_graph.specs.Inner.Codes.{AreFrames}
-use Rattle.wc_graph.specs.Inner.Families.{AreFalling, call_key, key_at}
+use Rattle.wc_graph.specs.Inner.Families.{key_at}
 use Rattle.wc_graph.specs.Inner.Frames.{HasStack, frame_at, frame_of}
 use Rattle.wc_graph.specs.Inner.Lists.{Has, Inside}
-use Rattle.wc_graph.specs.Inner.Numbers.{IsOnce}
 use Rattle.wc_graph.specs.Inner.Orders.{CallLess, Before, Pairs, IsPreorder}
 use Rattle.wc_graph.specs.Inner.Spreads.{IsMarked}
 use Rattle.wc_graph.specs.Inner.Stated.{low, with_all}
 use Rattle.wc_graph.specs.Inner.Walks.{IsOn, IsWalkable, IsAbove, itself, above, IsWalking, IsListed}
 use Rattle.wc_graph.proofs.FrameLemmas.{stack_same}
 use Rattle.wc_graph.proofs.OrderLemmas.{before_apart, on_from, preorder_begins, preorder_goes_on}
-use Rattle.wc_graph.proofs.RisingLemmas.{Over, Rises, over_has, has_append, append_has, has_map, map_has, all_in, in_all, all_rises}
+use Rattle.wc_graph.proofs.RisingLemmas.{Rises, over_has, has_append, append_has, has_map, map_has, all_in, in_all, all_rises}
 use Rattle.wc_graph.proofs.ZipLemmas.{zip_push}
 
 pub zip_has : {A B : Type 0} (R : A → B → Type 0) (xs : List A) (ys : List B) (x : A) → AllZip R xs ys → Has xs x → (y : B) × Has ys y × R x y

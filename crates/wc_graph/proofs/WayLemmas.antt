@@ -14,10 +14,10 @@ use Rattle.wc_model.specs.declared.instructions.Control.TheVariants.{Next, Jump,
 use Rattle.wc_model.specs.declared.instructions.Insn.{Insn}
 use Rattle.wc_model.specs.Program.Instruction.{insn_of}
 use Rattle.wc_model.specs.Program.Positions.{Position}
-use Rattle.wc_model.specs.Program.Steps.{Step, call_fault, call_targets, call_to, control_fault, fault_at, insn_at, insn_fault, insn_steps, is_noreturn, jump_fault, jump_targets, jump_to, next_of, passes_on, recurs, steps_known, steps_of, steps_unless, taken_step, taken_targets, word_fault}
+use Rattle.wc_model.specs.Program.Steps.{Step, call_fault, call_targets, call_to, control_fault, fault_at, insn_at, insn_fault, insn_steps, is_noreturn, jump_fault, jump_targets, jump_to, next_of, passes_on, recurs, steps_known, steps_unless, taken_step, taken_targets, word_fault}
 use Rattle.wc_model.specs.Program.Words.{word_at}
 use Rattle.wc_graph.specs.declared.frames.Turn.{Turn}
-use Rattle.wc_graph.specs.declared.frames.Way.TheVariants.{Go, Call as Calls}
+use Rattle.wc_graph.specs.declared.frames.Way.TheVariants.{Call as Calls}
 use Rattle.wc_graph.specs.Inner.Frames.{along}
 use Rattle.wc_graph.specs.Inner.Opened.{reopens}
 use Rattle.wc_graph.specs.Inner.Ways.{call_turns, is_some_list, is_told, jump_turn, next_turns, taken_turns, IsWay}

@@ -1,9 +1,9 @@
-ghost use Rattle.std.specs.Prelude.{◌≡◌, ◌<◌, ◌≤◌, ◌++◌, IfOk, IfSome, List, Vec, length, map, option_and_then};
+ghost use Rattle.std.specs.Prelude.{◌≡◌, ◌<◌, ◌≤◌, IfOk, IfSome, List, Vec, length, map, option_and_then};
 ghost use Rattle.std.specs.Global.{Global};
 ghost use Rattle.std.specs.List.{flat_map};
 ghost use Rattle.wc_model.specs.Program.Steps.{insn_at};
 ghost use Rattle.wc_graph.specs.declared.frames.Leap.{Leap};
-ghost use Rattle.wc_graph.specs.Inner.Assemblies.{context_of, node_if, node_of, step_of, steps_from};
+ghost use Rattle.wc_graph.specs.Inner.Assemblies.{AddsNode, AddsStep, AddsSteps, context_of, node_of, steps_from};
 ghost use Rattle.wc_graph.specs.Inner.Codes.{AreFrames};
 ghost use Rattle.wc_graph.specs.Inner.Lists.{Has, Inside};
 ghost use Rattle.wc_graph.specs.Inner.Ordered.{AreWithin, rank_at};
@@ -61,7 +61,7 @@ fn push_node(
     pc: Addr,
     rank: Option<u32>,
 ) -> Result<(), AllocError>
-    ensures { IfOk result (λ _. nodes.new.items ≡ nodes.old.items ++ node_if rank pc (insn_at image.now pc)) }
+    ensures { IfOk result (λ _. AddsNode image.now rank pc nodes.old.items nodes.new.items) }
 {
     let Some(context) = rank else {
         return Ok(());
@@ -101,7 +101,7 @@ fn push_step(
     numbers: &[Option<u32>],
 ) -> Result<(), AllocError>
     requires { IfSome leap.target (λ t. t < length numbers.now) }
-    ensures { IfOk result (λ _. steps.new.items ≡ steps.old.items ++ step_of numbers.now source leap) }
+    ensures { IfOk result (λ _. AddsStep numbers.now source leap steps.old.items steps.new.items) }
 {
     let Some(target) = leap.target else {
         steps.push(Step {
@@ -130,7 +130,7 @@ fn push_steps(
     numbers: &[Option<u32>],
 ) -> Result<(), AllocError>
     requires { AreTargets (length numbers.now) leaps.now }
-    ensures { IfOk result (λ _. steps.new.items ≡ steps.old.items ++ flat_map (step_of numbers.now source) leaps.now) }
+    ensures { IfOk result (λ _. AddsSteps numbers.now source leaps.now steps.old.items steps.new.items) }
 {
     for leap in leaps {
         push_step(steps, source, *leap, numbers)?;

@@ -1,6 +1,6 @@
-ghost use Rattle.std.specs.Prelude.{◌≡◌, ◌<◌, ◌≤◌, IfOk, MatchOption, length};
+ghost use Rattle.std.specs.Prelude.{◌≡◌, ◌<◌, ◌≤◌, IfOk, length};
 ghost use Rattle.wc_graph.specs.Inner.Codes.{IsCode, IsNew, HasPlace, HasTarget};
-ghost use Rattle.wc_graph.specs.Inner.Exploring.{HasExpanded, IsFull};
+ghost use Rattle.wc_graph.specs.Inner.Exploring.{Expands};
 
 use crate::frames::{Frame, Leap, Place, Turn, Way};
 use crate::interned::{number_of_frame, number_of_place};
@@ -107,7 +107,7 @@ impl Code {
         requires inside { place.frame < length self.old.frames.keys }
         requires few { length self.old.places.keys ≤ 100000 }
         ensures leaps { self.new.leaps ≡ self.old.leaps }
-        ensures expanded { IfOk result (λ o. MatchOption o (IsFull self.old place turns.now) (λ v. HasExpanded self.old self.new place turns.now v.items)) }
+        ensures expanded { IfOk result (Expands self.old self.new place turns.now) }
     {
         let mut leaps = Vec::new(alloc);
         for turn in turns {

@@ -1,9 +1,6 @@
-ghost use Rattle.std.specs.Prelude.{◌≡◌, ◌+◌, ◌<◌, IfOk, IfSome, [], ℕ, List, Some, length, slice_get};
-ghost use Rattle.std.specs.List.{list_any};
+ghost use Rattle.std.specs.Prelude.{◌≡◌, ◌+◌, ◌<◌, IfOk, IfSome, [], Some, length, slice_get};
 ghost use Rattle.wc_graph.specs.Inner.Codes.{AreFrames};
-ghost use Rattle.wc_graph.specs.Inner.Frames.{HasStack};
-ghost use Rattle.wc_graph.specs.Inner.Opened.{AreOpened, IsBelow, reopens};
-ghost use Rattle.wc_model.specs.Program.Positions.{Call};
+ghost use Rattle.wc_graph.specs.Inner.Opened.{AreOpened, IsBelow, TellsWay, TellsWays};
 
 use crate::frames::{Frame, Turn, Way};
 use crate::keys::{Branch, has, with};
@@ -70,7 +67,7 @@ impl Opened {
         requires frames { AreFrames frames.now }
         requires opened { AreOpened frames.now self.now }
         requires inside { frame < length self.now.roots.items }
-        ensures { (entry : ℕ) (calls : List Call) → HasStack entry frames.now frame calls → result ≡ reopens entry calls way }
+        ensures { TellsWay frames.now frame way result }
     {
         match way {
             Way::Call { callee, .. } => {
@@ -86,7 +83,7 @@ impl Opened {
         requires frames { AreFrames frames.now }
         requires opened { AreOpened frames.now self.now }
         requires inside { frame < length self.now.roots.items }
-        ensures { (entry : ℕ) (calls : List Call) → HasStack entry frames.now frame calls → result ≡ list_any (λ t. reopens entry calls t.way) turns.now }
+        ensures { TellsWays frames.now frame turns.now result }
     {
         for turn in turns {
             if self.reopens_one(frames, frame, turn.way) {

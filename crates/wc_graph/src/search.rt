@@ -1,6 +1,6 @@
-ghost use Rattle.std.specs.Prelude.{◌≡◌, ◌<◌, ◌≤◌, IfOk, Some, length, slice_get};
+ghost use Rattle.std.specs.Prelude.{◌≡◌, ◌<◌, ◌≤◌, IfOk, length};
 ghost use Rattle.wc_graph.specs.Inner.Codes.{IsCode};
-ghost use Rattle.wc_graph.specs.Inner.Searches.{IsReady, IsSearched, HasSkipped, AddsTurns, HasSearched, IsExploration};
+ghost use Rattle.wc_graph.specs.Inner.Searches.{IsNext, IsReady, IsSearched, HasSkipped, AddsTurns, HasSearched, IsExploration};
 
 use crate::code::Code;
 use crate::faults::{Faulty, lesser};
@@ -63,7 +63,7 @@ impl Search {
         place: Place,
     ) -> Result<bool, AllocError>
         requires ready { IsReady self.old }
-        requires next { slice_get self.old.code.places.keys (length self.old.code.leaps.items) ≡ Some place }
+        requires next { IsNext self.old place }
         ensures { IfOk result (HasSearched image.now stated.now self.old self.new) }
     {
         let frames = self.code.frames.as_slice();

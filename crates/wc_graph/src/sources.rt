@@ -2,7 +2,7 @@ ghost use Rattle.std.specs.Prelude.{◌≡◌, ◌<◌, ◌≤◌, ◌++◌, ◌
 ghost use Rattle.std.specs.Global.{Global};
 ghost use Rattle.wc_graph.specs.declared.frames.Leap.{Leap};
 ghost use Rattle.wc_graph.specs.Inner.Lists.{Has};
-ghost use Rattle.wc_graph.specs.Inner.Sources.{AreSources, AreTargets, Edge, edge_of, edges_from};
+ghost use Rattle.wc_graph.specs.Inner.Sources.{AreSources, AreTargets, Takes, edge_of, edges_from};
 
 use crate::frames::Leap;
 use std::alloc::{AllocError, Global};
@@ -30,7 +30,7 @@ impl Sources {
     /// One step more.
     pub fn add(&mut self, source: u32, target: Option<u32>) -> Result<(), AllocError>
         requires inside { IfSome target (λ t. t < length self.old.into.items) }
-        ensures sources { IfOk result (λ _. (edges : List Edge) → AreSources (length self.old.into.items) edges self.old → AreSources (length self.old.into.items) (edges ++ (source, target) ∷ []) self.new) }
+        ensures sources { IfOk result (λ _. Takes ((source, target) ∷ []) self.old self.new) }
         ensures count { IfOk result (λ _. length self.new.into.items ≡ length self.old.into.items) }
     {
         let Some(target) = target else {
@@ -44,7 +44,7 @@ impl Sources {
     // The steps of one position.
     fn add_all(&mut self, source: u32, leaps: &[Leap]) -> Result<(), AllocError>
         requires inside { AreTargets (length self.old.into.items) leaps.now }
-        ensures sources { IfOk result (λ _. (edges : List Edge) → AreSources (length self.old.into.items) edges self.old → AreSources (length self.old.into.items) (edges ++ map (edge_of source) leaps.now) self.new) }
+        ensures sources { IfOk result (λ _. Takes (map (edge_of source) leaps.now) self.old self.new) }
         ensures count { IfOk result (λ _. length self.new.into.items ≡ length self.old.into.items) }
     {
         for leap in leaps {

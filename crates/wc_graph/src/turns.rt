@@ -1,9 +1,7 @@
-ghost use Rattle.std.specs.Prelude.{◌<◌, IfOk, List, length};
+ghost use Rattle.std.specs.Prelude.{◌<◌, IfOk, length};
 ghost use Rattle.wc_graph.specs.Inner.Codes.{AreFrames};
 ghost use Rattle.wc_graph.specs.Inner.Opened.{AreOpened};
-ghost use Rattle.wc_graph.specs.Inner.Stated.{AreStated};
-ghost use Rattle.wc_graph.specs.Inner.Ways.{AreTurns};
-ghost use Rattle.wc_model.specs.declared.flow_facts.Fact.{Fact};
+ghost use Rattle.wc_graph.specs.Inner.Ways.{TellsTurns};
 
 use crate::frames::{Frame, Place, Turn};
 use crate::opened::Opened;
@@ -26,7 +24,7 @@ pub fn turns_of(
     requires opened { AreOpened frames.now opened.old }
     requires inside { place.frame < length frames.now }
     ensures opened { IfOk result (λ _. AreOpened frames.now opened.new) }
-    ensures turns { IfOk result (λ told. (facts : List Fact) → AreStated facts stated.now → AreTurns image.now facts frames.now place told) }
+    ensures turns { IfOk result (TellsTurns image.now stated.now frames.now place) }
 {
     let turns = match ways(alloc, image, stated, place.pc)? {
         Err(fault) => return Ok(Err(fault)),

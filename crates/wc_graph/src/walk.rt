@@ -1,7 +1,7 @@
-ghost use Rattle.std.specs.Prelude.{◌<◌, ◌≤◌, ℕ, IfOk, length};
+ghost use Rattle.std.specs.Prelude.{◌<◌, ◌≤◌, IfOk, length};
 ghost use Rattle.wc_graph.specs.Inner.Codes.{AreFrames};
 ghost use Rattle.wc_graph.specs.Inner.Families.{IsFamily};
-ghost use Rattle.wc_graph.specs.Inner.Walks.{IsListed, IsWalkable};
+ghost use Rattle.wc_graph.specs.Inner.Walks.{IsWalked};
 
 use crate::families::falling;
 use crate::frames::Frame;
@@ -19,7 +19,7 @@ pub fn listed(
     requires few { length frames.now ≤ 100000 }
     requires some { 0 < length frames.now }
     requires kids { IsFamily frames.now live.now (length frames.now) kids.now }
-    ensures { IfOk result (λ v. (entry : ℕ) → IsWalkable entry frames.now live.now → IsListed entry frames.now live.now v.items) }
+    ensures { IfOk result (λ v. IsWalked frames.now live.now v.items) }
 {
     let mut listed = Vec::new(alloc);
     let mut work = Vec::new(alloc);

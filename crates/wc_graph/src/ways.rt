@@ -1,8 +1,5 @@
-ghost use Rattle.std.specs.Prelude.{◌≡◌, ◌++◌, IfOk, List, map};
-ghost use Rattle.std.specs.List.{flat_map};
-ghost use Rattle.wc_graph.specs.Inner.Stated.{AreStated};
-ghost use Rattle.wc_graph.specs.Inner.Ways.{call_turns, jump_turn, next_turns, HasTaken, AreWays};
-ghost use Rattle.wc_model.specs.declared.flow_facts.Fact.{Fact};
+ghost use Rattle.std.specs.Prelude.{◌≡◌, ◌++◌, IfOk, map};
+ghost use Rattle.wc_graph.specs.Inner.Ways.{AddsCall, AddsCalls, AddsTaken, TellsWays, jump_turn, next_turns};
 ghost use Rattle.wc_model.specs.Program.Steps.{passes_on};
 
 use crate::frames::{Turn, Way};
@@ -19,7 +16,7 @@ fn push_call(
     at: Addr,
     callee: Addr,
 ) -> Result<(), AllocError>
-    ensures { IfOk result (λ _. (facts : List Fact) → AreStated facts stated.now → turns.new.items ≡ turns.old.items ++ call_turns facts at callee) }
+    ensures { IfOk result (λ _. AddsCall stated.now at callee turns.old.items turns.new.items) }
 {
     if stated.is_noreturn(callee) {
         return Ok(());
@@ -41,7 +38,7 @@ fn push_calls(
     at: Addr,
     callees: &[Addr],
 ) -> Result<(), AllocError>
-    ensures { IfOk result (λ _. (facts : List Fact) → AreStated facts stated.now → turns.new.items ≡ turns.old.items ++ flat_map (call_turns facts at) callees.now) }
+    ensures { IfOk result (λ _. AddsCalls stated.now at callees.now turns.old.items turns.new.items) }
 {
     for callee in callees {
         push_call(turns, stated, at, *callee)?;
@@ -70,7 +67,7 @@ fn push_taken(
     at: Addr,
     control: Control,
 ) -> Result<bool, AllocError>
-    ensures { IfOk result (λ told. (facts : List Fact) → AreStated facts stated.now → HasTaken facts at control turns.old.items turns.new.items told) }
+    ensures { IfOk result (AddsTaken stated.now at control turns.old.items turns.new.items) }
 {
     match control {
         Control::Next => {}
@@ -124,7 +121,7 @@ pub fn ways(
     stated: &Stated,
     at: Addr,
 ) -> Result<Result<Vec<Turn>, Fault>, AllocError>
-    ensures { IfOk result (λ told. (facts : List Fact) → AreStated facts stated.now → AreWays image.now facts at told) }
+    ensures { IfOk result (TellsWays image.now stated.now at) }
 {
     let Some(word) = image.word(at) else {
         return Ok(Err(Fault::OutOfText(at)));

@@ -57,3 +57,13 @@ pub record IsAssembled (image : Image) (survey : Survey) (frames places : Number
   pub steps : graph.steps ≡ steps_from survey.code.leaps.items places.numbers.items 0 places.order.items
   pub few_steps : length graph.steps < 2 ^ 32
   pub start : slice_get places.numbers.items 0 ≡ Some (Some graph.start)
+
+-- added behind: a node, a step, the steps of a node
+abbrev pub AddsNode : Image → Option ℕ → ℕ → List Node → List Node → Type 0
+AddsNode image rank pc old new = new ≡ old ++ node_if rank pc (insn_at image pc)
+
+abbrev pub AddsStep : List (Option ℕ) → ℕ → Leap → List NumberedStep → List NumberedStep → Type 0
+AddsStep numbers source leap old new = new ≡ old ++ step_of numbers source leap
+
+abbrev pub AddsSteps : List (Option ℕ) → ℕ → List Leap → List NumberedStep → List NumberedStep → Type 0
+AddsSteps numbers source leaps old new = new ≡ old ++ flat_map (step_of numbers source) leaps

@@ -1,7 +1,6 @@
 -- What is known of the frames and places that were found.
-use Rattle.std.specs.Prelude.{ℕ, ◌≡◌, ◌+◌, ◌<◌, ◌≤◌, ◌⊎◌, List, [], ◌∷◌, ◌++◌, Option, None, Some, IfSome, IsSomeAnd, Contains, length, slice_get}
+use Rattle.std.specs.Prelude.{ℕ, ◌≡◌, ◌+◌, ◌<◌, ◌≤◌, ◌⊎◌, List, [], ◌∷◌, ◌++◌, Option, None, Some, IfSome, IsSomeAnd, length, slice_get}
 use Rattle.std.specs.List.{AllZip}
-use Rattle.wc_model.specs.Program.Graphs.{IsTargetOf}
 use Rattle.wc_model.specs.Program.Positions.{Position, start_of}
 use Rattle.wc_model.specs.Program.Reaching.{Reaches}
 use Rattle.wc_model.specs.Program.Steps.{Step, LeadsBy}
@@ -9,7 +8,7 @@ use Rattle.wc_graph.specs.declared.code.Code.{Code}
 use Rattle.wc_graph.specs.declared.frames.Frame.{Frame}
 use Rattle.wc_graph.specs.declared.frames.Place.{Place}
 use Rattle.wc_graph.specs.declared.frames.Way.{Way}
-use Rattle.wc_graph.specs.Inner.Numbers.{IsOnce, IsKept, IsGrown}
+use Rattle.wc_graph.specs.Inner.Numbers.{IsOnce, IsKept}
 use Rattle.wc_graph.specs.Inner.Frames.{HasStack, IsAt, IsTargetPlace, frame_of, way_target}
 
 pub record AreFrames (frames : List Frame) : Type 0 where

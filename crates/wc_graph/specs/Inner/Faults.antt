@@ -1,5 +1,5 @@
 -- The first of several faults.
-use Rattle.std.specs.Prelude.{ℕ, ◌≡◌, ◌<◌, ◌≤◌, ◌⊎◌, List, [], ◌∷◌, Option, None, Some}
+use Rattle.std.specs.Prelude.{◌≡◌, ◌<◌, ◌≤◌, ◌⊎◌, List, [], ◌∷◌, Option, None, Some}
 use Rattle.wc_base.specs.Faults.{number_of}
 use Rattle.wc_graph.specs.declared.faults.Faulty.{Faulty}
 

@@ -1,5 +1,5 @@
 -- The places of numbers in a list.
-use Rattle.std.specs.Prelude.{ℕ, ◌≡◌, ◌<◌, List, Option, None, Some, Vec, length, slice_get}
+use Rattle.std.specs.Prelude.{ℕ, ◌≡◌, ◌<◌, List, Option, Some, Vec, length, slice_get}
 use Rattle.std.specs.Global.{Global}
 use Rattle.wc_graph.specs.Inner.Numbers.{IsOnce}
 

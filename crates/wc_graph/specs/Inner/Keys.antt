@@ -1,5 +1,5 @@
 -- Sets of numbers as digital search trees, after Coffman and Eve 1970.
-use Rattle.std.specs.Prelude.{ℕ, ◌≡◌, ◌+◌, ◌<◌, ◌≤◌, ◌/◌, ◌%◌, ◌==◌, ◌↔◌, ◌⊎◌, ◌++◌, if◌then◌else◌, List, Option, None, Some, IfSome, length, slice_get}
+use Rattle.std.specs.Prelude.{ℕ, ◌≡◌, ◌+◌, ◌<◌, ◌≤◌, ◌/◌, ◌%◌, ◌==◌, ◌↔◌, ◌⊎◌, ◌++◌, if◌then◌else◌, List, Option, None, Some, length, slice_get}
 use Rattle.wc_graph.specs.declared.keys.Branch.{Branch}
 
 abbrev pub after : Option ℕ → ℕ

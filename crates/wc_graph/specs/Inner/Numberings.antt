@@ -1,10 +1,9 @@
 -- New numbers: the live frames in the order of their stacks, and the live positions in order.
-use Rattle.std.specs.Prelude.{ℕ, ◌≡◌, ◌<◌, ◌≤◌, Bool, List, Vec, length}
+use Rattle.std.specs.Prelude.{ℕ, ◌≡◌, ◌≤◌, Bool, List, Vec, length}
 use Rattle.std.specs.Global.{Global}
 use Rattle.wc_model.specs.declared.elf_image.Image.{Image}
 use Rattle.wc_model.specs.declared.flow_facts.Fact.{Fact}
 use Rattle.wc_graph.specs.declared.frames.Leap.{Leap}
-use Rattle.wc_graph.specs.declared.frames.Place.{Place}
 use Rattle.wc_graph.specs.declared.numbering.Numbering.{Numbering}
 use Rattle.wc_graph.specs.declared.survey.Survey.{Survey}
 use Rattle.wc_graph.specs.Inner.Codes.{IsCode}

@@ -3,9 +3,11 @@ use Rattle.std.specs.Prelude.{ℕ, ◌≡◌, ◌<◌, ◌≤◌, ◌↔◌, ◌
 use Rattle.std.specs.List.{list_any}
 use Rattle.wc_model.specs.Program.Positions.{Call}
 use Rattle.wc_graph.specs.declared.frames.Frame.{Frame}
+use Rattle.wc_graph.specs.declared.frames.Turn.{Turn}
 use Rattle.wc_graph.specs.declared.frames.Way.{Way}
 use Rattle.wc_graph.specs.declared.frames.Way.TheVariants.{Go, Call as CallTo, Leave}
 use Rattle.wc_graph.specs.declared.opened.Opened.{Opened}
+use Rattle.wc_graph.specs.Inner.Frames.{HasStack}
 use Rattle.wc_graph.specs.declared.keys.Branch.{Branch}
 use Rattle.wc_graph.specs.Inner.Keys.{AreBranches, IsIn}
 
@@ -34,3 +36,10 @@ pub record AreOpenedOf (frames : List Frame) (branches : List Branch) (roots : L
 
 abbrev pub AreOpened : List Frame → Opened → Type 0
 AreOpened frames opened = AreOpenedOf frames opened.branches.items opened.roots.items
+
+-- whether a way, or some way, calls a function that is open at the frame
+abbrev pub TellsWay : List Frame → ℕ → Way → Bool → Type 0
+TellsWay frames frame way told = (entry : ℕ) (calls : List Call) → HasStack entry frames frame calls → told ≡ reopens entry calls way
+
+abbrev pub TellsWays : List Frame → ℕ → List Turn → Bool → Type 0
+TellsWays frames frame turns told = (entry : ℕ) (calls : List Call) → HasStack entry frames frame calls → told ≡ list_any (λ t. reopens entry calls t.way) turns

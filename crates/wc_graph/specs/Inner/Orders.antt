@@ -1,5 +1,5 @@
 -- Stacks in order, the outermost call first: one that ends comes before those that go on.
-use Rattle.std.specs.Prelude.{ℕ, ◌≡◌, ◌<◌, ◌⊎◌, List, [], ◌∷◌, ◌++◌}
+use Rattle.std.specs.Prelude.{◌≡◌, ◌<◌, ◌⊎◌, List, [], ◌∷◌, ◌++◌}
 use Rattle.wc_model.specs.Program.Positions.{Call}
 use Rattle.wc_graph.specs.Inner.Lists.{Has}
 

@@ -40,6 +40,10 @@ pub record IsSearchingOf (image : Image) (facts : List Fact) (entry : ℕ) (fram
 abbrev pub IsSearching : Image → List Fact → ℕ → Search → Type 0
 IsSearching image facts entry search = IsSearchingOf image facts entry search.code.frames.keys search.code.places.keys search.code.leaps.items search.least
 
+-- the position that is expanded next
+abbrev pub IsNext : Search → Place → Type 0
+IsNext search place = slice_get search.code.places.keys (length search.code.leaps.items) ≡ Some place
+
 -- a faulty position has no steps
 pub record HasSkipped (old new : Search) (at : ℕ) (fault : Fault) : Type 0 where
   pub frames : new.code.frames.keys ≡ old.code.frames.keys

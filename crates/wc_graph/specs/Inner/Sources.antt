@@ -23,3 +23,7 @@ pub record AreSources (count : ℕ) (edges : List Edge) (sources : Sources) : Ty
   pub counted : length sources.into.items ≡ count
   pub exits : (k : ℕ) → Has sources.exits.items k ↔ Has edges (k, None)
   pub into : (t : ℕ) (v : Vec ℕ Global) → slice_get sources.into.items t ≡ Some v → (k : ℕ) → Has v.items k ↔ Has edges (k, Some t)
+
+-- some steps more were added
+abbrev pub Takes : List Edge → Sources → Sources → Type 0
+Takes more old new = (edges : List Edge) → AreSources (length old.into.items) edges old → AreSources (length old.into.items) (edges ++ more) new

@@ -1,5 +1,5 @@
 -- Numbers that are reached along lists of neighbours.
-use Rattle.std.specs.Prelude.{ℕ, ◌≡◌, ◌+◌, ◌<◌, ◌≤◌, ◌↔◌, ◌⊎◌, Bool, true, false, List, [], ◌∷◌, Some, Vec, length, slice_get}
+use Rattle.std.specs.Prelude.{ℕ, ◌≡◌, ◌+◌, ◌≤◌, ◌↔◌, ◌⊎◌, Bool, true, false, List, [], ◌∷◌, Some, Vec, length, slice_get}
 use Rattle.std.specs.Global.{Global}
 use Rattle.wc_graph.specs.declared.live.Marked.{Marked}
 use Rattle.wc_graph.specs.Inner.Lists.{Has, Inside}

@@ -1,14 +1,11 @@
 -- The positions of a function, and those that lie on a walk from its start to its exit.
-use Rattle.std.specs.Prelude.{ℕ, ◌≡◌, ◌<◌, ◌≤◌, Bool, List, Result, Ok, Err, None, Vec, length, slice_get}
+use Rattle.std.specs.Prelude.{ℕ, ◌≡◌, ◌≤◌, Bool, List, Result, Ok, Err, None, Vec, length}
 use Rattle.std.specs.Global.{Global}
 use Rattle.wc_base.specs.declared.troubles.Trouble.{Trouble}
 use Rattle.wc_base.specs.declared.troubles.Trouble.TheVariants.{Fault as Refused, Memory}
 use Rattle.wc_model.specs.declared.elf_image.Image.{Image}
 use Rattle.wc_model.specs.declared.flow_facts.Fact.{Fact}
 use Rattle.wc_model.specs.Program.Graphs.{IsGraphFault, IsSound, IsTooLarge}
-use Rattle.wc_model.specs.Program.Positions.{Position}
-use Rattle.wc_model.specs.Program.Reaching.{Ends}
-use Rattle.wc_model.specs.Program.Steps.{LeadsBy, steps_of}
 use Rattle.wc_graph.specs.declared.frames.Leap.{Leap}
 use Rattle.wc_graph.specs.declared.sources.Sources.{Sources}
 use Rattle.wc_graph.specs.declared.survey.Survey.{Survey}

@@ -42,3 +42,6 @@ pub record IsListed (entry : ℕ) (frames : List Frame) (live : List Bool) (list
   pub sorted : Pairs Before stacks
   pub live_are : (k : ℕ) → Has listed k → IsMarked live k
   pub all : (k : ℕ) → IsMarked live k → Has listed k
+
+abbrev pub IsWalked : List Frame → List Bool → List ℕ → Type 0
+IsWalked frames live listed = (entry : ℕ) → IsWalkable entry frames live → IsListed entry frames live listed

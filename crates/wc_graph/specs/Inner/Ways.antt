@@ -15,7 +15,9 @@ use Rattle.wc_graph.specs.declared.frames.Way.TheVariants.{Go, Call as Calls, Le
 use Rattle.wc_graph.specs.declared.frames.Frame.{Frame}
 use Rattle.wc_graph.specs.declared.frames.Place.{Place}
 use Rattle.wc_graph.specs.Inner.Frames.{IsAt, along}
+use Rattle.wc_graph.specs.declared.stated.Stated.{Stated}
 use Rattle.wc_graph.specs.Inner.Opened.{reopens}
+use Rattle.wc_graph.specs.Inner.Stated.{AreStated}
 
 abbrev pub jump_turn : ℕ → Turn
 jump_turn target = record { way = Go target; taken = true }
@@ -62,3 +64,19 @@ AreWays image facts at (Ok turns) = (entry : ℕ) (p : Position) → p.pc ≡ at
 abbrev pub AreTurns : Image → List Fact → List Frame → Place → Result (Vec Turn Global) Fault → Type 0
 AreTurns image facts frames place (Err fault) = (entry : ℕ) (p : Position) → IsAt entry frames place p → fault_at image facts entry p ≡ Some fault
 AreTurns image facts frames place (Ok turns) = (entry : ℕ) (p : Position) → IsAt entry frames place p → (fault_at image facts entry p ≡ None) × (steps_of image facts entry p ≡ map (along p) turns.items)
+
+-- the same under what the facts state
+abbrev pub TellsTurns : Image → Stated → List Frame → Place → Result (Vec Turn Global) Fault → Type 0
+TellsTurns image stated frames place told = (facts : List Fact) → AreStated facts stated → AreTurns image facts frames place told
+
+abbrev pub TellsWays : Image → Stated → ℕ → Result (Vec Turn Global) Fault → Type 0
+TellsWays image stated at told = (facts : List Fact) → AreStated facts stated → AreWays image facts at told
+
+abbrev pub AddsCalls : Stated → ℕ → List ℕ → List Turn → List Turn → Type 0
+AddsCalls stated at callees old new = (facts : List Fact) → AreStated facts stated → new ≡ old ++ flat_map (call_turns facts at) callees
+
+abbrev pub AddsCall : Stated → ℕ → ℕ → List Turn → List Turn → Type 0
+AddsCall stated at callee old new = (facts : List Fact) → AreStated facts stated → new ≡ old ++ call_turns facts at callee
+
+abbrev pub AddsTaken : Stated → ℕ → Control → List Turn → List Turn → Bool → Type 0
+AddsTaken stated at control old new told = (facts : List Fact) → AreStated facts stated → HasTaken facts at control old new told

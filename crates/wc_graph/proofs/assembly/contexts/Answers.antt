@@ -1,4 +1,4 @@
-use Rattle.std.proofs.Common.{ℕ, ◌<◌, List, length, get_or, arith}
+use Rattle.std.proofs.Common.{ℕ, ◌<◌, length, get_or, arith}
 use Rattle.wc_graph.proofs.FamilyLemmas.{parent_inside}
 use Rattle.wc_graph.proofs.SpreadLemmas.{at_has}
 use Rattle.wc_graph.proofs.assembly.contexts.Goals as goal

@@ -1,4 +1,4 @@
-use Rattle.std.proofs.Common.{ℕ, List, None, false, get_or, arith}
+use Rattle.std.proofs.Common.{List, None, false, get_or, arith}
 use Rattle.wc_graph.specs.declared.frames.Leap.{Leap}
 use Rattle.wc_graph.proofs.SpreadLemmas.{at_has}
 use Rattle.wc_graph.proofs.assembly.push_steps.Goals as goal

@@ -1,5 +1,4 @@
 use Rattle.std.proofs.Common.{ℕ, List, map}
-use Rattle.wc_model.specs.declared.elf_image.Image.{Image}
 use Rattle.wc_model.specs.declared.flow_facts.Fact.{Fact}
 use Rattle.wc_graph.specs.declared.survey.Survey.{Survey}
 use Rattle.wc_graph.specs.Inner.Numberings.{AreRanked}

@@ -1,5 +1,4 @@
-use Rattle.std.proofs.Common.{ℕ, ◌≡◌, ◌<◌, List, Option, Some, length, get_or, set, refl, arith}
-use Rattle.std.specs.List.{slice_get}
+use Rattle.std.proofs.Common.{ℕ, ◌<◌, List, Option, Some, length, get_or, set, refl, arith}
 use Rattle.std.proofs.lemmas.Option.{slice_get-get_or}
 use Rattle.wc_graph.proofs.InverseLemmas.{placed_more}
 use Rattle.wc_graph.proofs.SpreadLemmas.{at_has}

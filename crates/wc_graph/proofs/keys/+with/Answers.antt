@@ -1,8 +1,8 @@
-use Rattle.std.proofs.Common.{ℕ, ◌≡◌, ◌≤◌, ◌<◌, ◌/◌, ◌++◌, ◌∷◌, [], List, Option, None, Some, length, refl, sym, ap, subst, ◌∙◌, arith, rules}
+use Rattle.std.proofs.Common.{ℕ, ◌≡◌, ◌≤◌, ◌<◌, ◌/◌, ◌++◌, ◌∷◌, [], List, Option, None, Some, length, refl, sym, ap, subst, ◌∙◌, arith}
 use Rattle.std.specs.List.{slice_get}
 use Rattle.std.proofs.lemmas.Option.{slice_get_read}
 use Rattle.wc_graph.specs.declared.keys.Branch.{Branch}
-use Rattle.wc_graph.specs.Inner.Keys.{IsIn, HasKey, after, child, with_child}
+use Rattle.wc_graph.specs.Inner.Keys.{HasKey, after, child, with_child}
 use Rattle.wc_graph.proofs.KeysLemmas.{alone, found, deeper, child_below}
 use Rattle.wc_graph.proofs.keys.+with.Goals as goal
 

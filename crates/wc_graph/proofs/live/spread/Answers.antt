@@ -1,9 +1,9 @@
-use Rattle.std.proofs.Common.{ℕ, ◌≡◌, ◌+◌, ◌<◌, ◌≤◌, List, [], ◌∷◌, ◌++◌, Some, Vec, Global, vec_len, length, refl, sym, ap, subst, ◌∙◌, arith}
+use Rattle.std.proofs.Common.{ℕ, ◌≡◌, ◌+◌, ◌<◌, ◌≤◌, List, Some, Vec, Global, vec_len, length, refl, sym, ap, subst, arith}
 use Rattle.std.specs.List.{slice_get}
 use Rattle.std.proofs.lemmas.List.{length_push}
 use Rattle.std.proofs.lemmas.Option.{slice_get_read}
 use Rattle.wc_graph.specs.declared.live.Marked.{Marked}
-use Rattle.wc_graph.specs.Inner.Lists.{Has, Inside}
+use Rattle.wc_graph.specs.Inner.Lists.{Has}
 use Rattle.wc_graph.specs.Inner.Spreads.{Marks, unmarked}
 use Rattle.wc_graph.proofs.SpreadLemmas.{last_has, no_rest, number_within, spread_begins, spread_on, spread_ends}
 use Rattle.wc_graph.proofs.live.spread.Goals as goal

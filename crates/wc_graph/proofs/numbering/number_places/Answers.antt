@@ -3,7 +3,6 @@ use Rattle.wc_graph.specs.declared.frames.Place.{Place}
 use Rattle.wc_graph.specs.declared.survey.Survey.{Survey}
 use Rattle.wc_graph.specs.Inner.Inverses.{IsPlacedTo}
 use Rattle.wc_graph.specs.Inner.Lists.{Inside}
-use Rattle.wc_graph.specs.Inner.Ordered.{AreOrdered}
 use Rattle.wc_graph.proofs.RankLemmas.{ordered_over, placed_all, places_few, places_inside}
 use Rattle.wc_graph.proofs.ResultLemmas.{if_both}
 use Rattle.wc_graph.proofs.numbering.number_places.Goals as goal

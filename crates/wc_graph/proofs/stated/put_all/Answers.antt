@@ -1,4 +1,4 @@
-use Rattle.std.proofs.Common.{ℕ, ◌≡◌, ◌<◌, List, length, get_or, refl, sym, subst, ap, ◌∙◌, arith, nat_cmp}
+use Rattle.std.proofs.Common.{ℕ, ◌<◌, List, length, get_or, ◌∙◌, arith}
 use Rattle.wc_graph.specs.Inner.Stated.{key_of}
 use Rattle.wc_graph.proofs.RisingLemmas.{key_target}
 use Rattle.wc_graph.proofs.StatedLemmas.{next_key, fits_any}

@@ -1,5 +1,5 @@
-use Rattle.std.proofs.Common.{ℕ, ◌≡◌, ◌<◌, List, Result, Ok, Err, IfOk, Vec, Global, length, refl, sym, ap, subst}
-use Rattle.wc_graph.specs.Inner.Lists.{Has, Inside}
+use Rattle.std.proofs.Common.{ℕ, List, Vec, Global, length, sym, subst}
+use Rattle.wc_graph.specs.Inner.Lists.{Inside}
 use Rattle.wc_graph.specs.Inner.Spreads.{AllInside, IsSpread}
 use Rattle.wc_graph.proofs.SourceLemmas.{sources_inside, exits_inside}
 use Rattle.wc_graph.proofs.ResultLemmas.{if_ok}

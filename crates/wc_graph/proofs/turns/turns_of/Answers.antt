@@ -1,12 +1,9 @@
-use Rattle.std.proofs.Common.{ℕ, ◌≡◌, List, Bool, Some, Ok, true, false, sym, ap, subst, ◌∙◌}
+use Rattle.std.proofs.Common.{◌≡◌, Some, true, false, sym, ap, subst, ◌∙◌}
 use Rattle.std.specs.List.{list_any}
-use Rattle.wc_base.specs.declared.faults.Fault.{Fault}
 use Rattle.wc_base.specs.declared.faults.Fault.TheVariants.{Recursion}
-use Rattle.wc_model.specs.Program.Positions.{Position}
 use Rattle.wc_graph.specs.declared.frames.Turn.{Turn}
 use Rattle.wc_graph.specs.Inner.Opened.{reopens}
 use Rattle.wc_graph.specs.Inner.Ways.{AreWays, IsWay}
-use Rattle.wc_graph.specs.Inner.Frames.{IsAt}
 use Rattle.wc_graph.proofs.turns.turns_of.Goals as goal
 
 pub returns-then-reopens-clause-turns : goal.returns-then-reopens-clause-turns

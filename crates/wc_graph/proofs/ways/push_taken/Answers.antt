@@ -1,9 +1,8 @@
-use Rattle.std.proofs.Common.{ℕ, ◌≡◌, ◌++◌, Bool, List, map, not, length, sym, ap, subst, ◌∙◌, vec_len, arith}
+use Rattle.std.proofs.Common.{ℕ, ◌≡◌, ◌++◌, List, map, not, sym, ap, subst, ◌∙◌, vec_len, arith}
 use Rattle.std.specs.List.{flat_map}
 use Rattle.wc_model.specs.declared.instructions.Control.{Control}
 use Rattle.wc_model.specs.Program.Steps.{call_targets, jump_targets}
-use Rattle.wc_graph.specs.declared.frames.Turn.{Turn}
-use Rattle.wc_graph.specs.Inner.Ways.{call_turns, jump_turn, is_some_list, HasTaken}
+use Rattle.wc_graph.specs.Inner.Ways.{call_turns, jump_turn, HasTaken}
 use Rattle.wc_graph.proofs.StatedLemmas.{jumps_are, calls_are}
 use Rattle.wc_graph.proofs.WayLemmas.{some_list}
 use Rattle.wc_graph.proofs.ways.push_taken.Goals as goal

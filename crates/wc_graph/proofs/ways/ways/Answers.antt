@@ -1,6 +1,4 @@
-use Rattle.std.proofs.Common.{◌≡◌, ◌++◌, List, Some, true, false, sym, ap, ◌∙◌}
-use Rattle.wc_model.specs.Program.Instruction.{insn_of}
-use Rattle.wc_model.specs.Program.Words.{word_at}
+use Rattle.std.proofs.Common.{◌≡◌, ◌++◌, List, sym, ap, ◌∙◌}
 use Rattle.wc_graph.specs.declared.frames.Turn.{Turn}
 use Rattle.wc_graph.specs.Inner.Ways.{next_turns, taken_turns}
 use Rattle.wc_graph.proofs.WayLemmas.{unresolved_at, ways_at}

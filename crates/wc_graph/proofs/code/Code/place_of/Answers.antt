@@ -1,7 +1,6 @@
-use Rattle.std.proofs.Common.{ℕ, ◌≡◌, List, Option, Some, length, refl, sym, ap, subst, ◌∙◌, arith}
+use Rattle.std.proofs.Common.{◌≡◌, Some, sym, subst}
 use Rattle.std.specs.List.{slice_get}
 use Rattle.wc_graph.specs.declared.frames.Frame.{Frame}
-use Rattle.wc_graph.specs.declared.frames.Place.{Place}
 use Rattle.wc_graph.specs.declared.frames.Way.{Way}
 use Rattle.wc_graph.specs.Inner.Codes.{HasPlace}
 use Rattle.wc_graph.proofs.CodeLemmas.{go, call, leave_back}

@@ -1,10 +1,9 @@
-use Rattle.std.proofs.Common.{ℕ, ◌≡◌, ◌+◌, Bool, List, [], ◌∷◌, ◌++◌, true, false, Some, length, ⊎_elim, refl, sym, ap, subst, ◌∙◌, arith}
+use Rattle.std.proofs.Common.{ℕ, ◌≡◌, ◌+◌, Bool, List, true, false, Some, length, ⊎_elim, ap, subst, ◌∙◌, arith}
 use Rattle.std.specs.List.{slice_get}
 use Rattle.std.proofs.lemmas.Bool.{false≢true}
 use Rattle.std.proofs.lemmas.List.{length_push}
 use Rattle.std.proofs.lemmas.Option.{none-some}
 use Rattle.wc_model.proofs.Places.{get_push_cases}
-use Rattle.wc_graph.specs.Inner.Spreads.{IsMarked}
 use Rattle.wc_graph.proofs.live.Marked.new.Goals as goal
 
 pub loop-number-init : goal.loop-number-init

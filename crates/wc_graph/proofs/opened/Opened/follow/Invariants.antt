@@ -1,4 +1,4 @@
-use Rattle.std.proofs.Common.{◌-◌, ◌≤◌, length}
+use Rattle.std.proofs.Common.{◌-◌, length}
 use Rattle.wc_graph.specs.Inner.Opened.{AreOpened}
 use Rattle.wc_graph.proofs.opened.Opened.follow.Given as goal
 

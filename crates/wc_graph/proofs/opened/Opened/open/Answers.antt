@@ -1,4 +1,4 @@
-use Rattle.std.proofs.Common.{ℕ, ◌≡◌, ◌≤◌, List, Option, Some, IfSome, length, refl, sym, ap, subst, ◌∙◌, arith}
+use Rattle.std.proofs.Common.{length, arith}
 use Rattle.wc_graph.proofs.OpenedLemmas.{short_parent, below_inside, opened_more}
 use Rattle.wc_graph.proofs.opened.Opened.open.Goals as goal
 

@@ -1,7 +1,6 @@
-use Rattle.std.proofs.Common.{ℕ, ◌≡◌, ◌<◌, ◌↔◌, List, Option, Some, true, length, refl, sym, ap, subst, ◌∙◌, arith}
+use Rattle.std.proofs.Common.{◌≡◌, ◌<◌, ◌↔◌, List, Some, true, length, refl, sym, ap, subst, ◌∙◌, arith}
 use Rattle.std.specs.List.{slice_get}
 use Rattle.std.proofs.lemmas.Option.{slice_get_read}
-use Rattle.wc_graph.specs.declared.frames.Way.{Way}
 use Rattle.wc_graph.specs.Inner.Opened.{reopens}
 use Rattle.wc_graph.proofs.OpenedLemmas.{call_test, test_is}
 use Rattle.wc_graph.specs.declared.keys.Branch.{Branch}

@@ -1,4 +1,4 @@
-use Rattle.std.proofs.Common.{◌≡◌, [], ◌∷◌, ◌++◌, Option, Some, Vec, Global, refl, sym, ap, subst, ◌∙◌, MatchOption}
+use Rattle.std.proofs.Common.{[], ◌∷◌, ◌++◌, Option, Vec, Global, refl, ap, subst, ◌∙◌, MatchOption}
 use Rattle.wc_graph.specs.declared.frames.Leap.{Leap}
 use Rattle.wc_graph.specs.Inner.Exploring.{HasExpanded, IsFull}
 use Rattle.wc_graph.proofs.search.Search.add.Goals as goal

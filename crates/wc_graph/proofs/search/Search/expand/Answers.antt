@@ -1,10 +1,9 @@
-use Rattle.std.proofs.Common.{ℕ, ◌≡◌, List, Bool, Option, Result, Ok, Err, IfOk, Vec, Global, refl, sym, ap, subst, ◌∙◌}
-use Rattle.wc_base.specs.declared.faults.Fault.{Fault}
+use Rattle.std.proofs.Common.{List, Vec, Global, subst}
 use Rattle.wc_graph.specs.declared.frames.Frame.{Frame}
 use Rattle.wc_graph.specs.declared.frames.Turn.{Turn}
 use Rattle.wc_graph.specs.declared.search.Search.{Search}
 use Rattle.wc_graph.specs.Inner.Opened.{AreOpened}
-use Rattle.wc_graph.specs.Inner.Searches.{AddsTurns, HasSearched}
+use Rattle.wc_graph.specs.Inner.Searches.{AddsTurns}
 use Rattle.wc_graph.specs.Inner.Ways.{AreTurns}
 use Rattle.wc_graph.proofs.SearchLemmas.{skip_on, add_on}
 use Rattle.wc_graph.proofs.ResultLemmas.{if_ok}

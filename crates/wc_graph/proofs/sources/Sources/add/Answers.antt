@@ -1,9 +1,9 @@
-use Rattle.std.proofs.Common.{ℕ, ◌≡◌, ◌<◌, List, [], ◌∷◌, ◌++◌, Option, None, Some, IfSome, Vec, Global, length, refl, sym, subst}
+use Rattle.std.proofs.Common.{ℕ, ◌≡◌, ◌<◌, [], ◌∷◌, ◌++◌, Option, Some, IfSome, Vec, Global, length, refl, sym, subst}
 use Rattle.std.specs.List.{slice_get}
 use Rattle.std.specs.Vec.{with_item}
 use Rattle.std.proofs.lemmas.Option.{slice_get_read}
 use Rattle.wc_graph.specs.declared.sources.Sources.{Sources}
-use Rattle.wc_graph.specs.Inner.Sources.{AreSources, Edge}
+use Rattle.wc_graph.specs.Inner.Sources.{AreSources}
 use Rattle.wc_graph.proofs.SourceLemmas.{exit_more, into_more}
 use Rattle.wc_graph.proofs.sources.Sources.add.Goals as goal
 

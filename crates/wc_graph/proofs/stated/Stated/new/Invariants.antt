@@ -1,4 +1,4 @@
-use Rattle.std.proofs.Common.{◌≡◌, map, drop, take}
+use Rattle.std.proofs.Common.{map, take}
 use Rattle.wc_graph.specs.Inner.Stated.{AreStated}
 use Rattle.wc_graph.proofs.stated.Stated.new.Given as goal
 
