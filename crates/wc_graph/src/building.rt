@@ -12,7 +12,7 @@ use std::alloc::{AllocError, Global};
 use wc_base::{Addr, Trouble};
 use wc_model::{Facts, Graph, Image, Table};
 
-// How many numbers steps have.
+// Steps are numbered below this.
 const ABOVE: usize = 0x1_0000_0000;
 
 // The graph of the live positions, with their new numbers.
@@ -57,7 +57,7 @@ fn assemble(
 /// # Errors
 /// `TooLarge` where more than 100,000 positions are reached. Else the fault with the least address, at one address
 /// the one with the least number: `OutOfText`, `UnknownInstruction`, `Unresolved` or `Recursion`. Else `NoExit`
-/// where no walk leads to the exit. Want of memory.
+/// where no walk leads to the exit. Want of memory, also for a graph of 2^32 steps or more.
 pub fn build(alloc: Global, image: &Image, facts: &Facts, entry: Addr) -> Result<Graph, Trouble>
     ensures graph { Builds image.now (map (λ f. f.1) facts.now) entry result }
     ensures numbers { IfOk result IsGraph }
