@@ -1,5 +1,5 @@
 -- The live frames in the order of their stacks.
-use Rattle.std.specs.Prelude.{ℕ, ◌≡◌, ◌⊎◌, ◌<◌, ◌≤◌, Bool, List, [], ◌∷◌, None, Some, reverse, length, slice_get}
+use Rattle.std.specs.Prelude.{ℕ, ◌≡◌, ◌⊎◌, Bool, List, [], Some, reverse, length}
 use Rattle.std.specs.List.{AllZip}
 use Rattle.wc_model.specs.Program.Positions.{Call}
 use Rattle.wc_graph.specs.declared.frames.Frame.{Frame}
