@@ -1,0 +1,3 @@
+pub mod BestLemmas
+pub mod FitLemmas
+pub mod TallyLemmas
