@@ -3,7 +3,7 @@ use Rattle.std.proofs.Common.{ℕ, zero, suc, ◌≡◌, ◌+◌, ◌<◌, ◌�
 use Rattle.std.specs.List.{AllZip, Contains, slice_get}
 use Rattle.std.proofs.lemmas.Bool.{cases_lt, le-ltb}
 use Rattle.std.proofs.lemmas.List.{length_push}
-use Rattle.std.proofs.lemmas.List.Elements.{All-contains}
+use Rattle.std.proofs.lemmas.List.Elements.{All-contains, All-weaker, All-contains_itself}
 use Rattle.std.proofs.lemmas.Option.{none-some, same_Some, slice_get_within}
 use Rattle.wc_model.specs.declared.flow_facts.Fact.{Fact}
 use Rattle.wc_model.specs.declared.graphs.Graph.{Graph}
@@ -18,7 +18,8 @@ use Rattle.wc_model.specs.Program.Positions.{Position}
 use Rattle.wc_model.proofs.Places.{contains_from_get, get_from_contains, get_push_cases, get_within}
 use Rattle.wc_bounds.specs.declared.best.Best.{Best}
 use Rattle.wc_bounds.specs.declared.bounds.Tally.{Tally}
-use Rattle.wc_bounds.specs.Inner.Best.{offered, IsAt, ArePlaced}
+use Rattle.wc_bounds.specs.Heads.{HavePlaces}
+use Rattle.wc_bounds.specs.Inner.Best.{offered, IsAt}
 use Rattle.wc_bounds.specs.Inner.Stated.{IsBestFrom}
 use Rattle.wc_bounds.specs.Inner.Tallies.{lesser_at, HasBound, IsTally}
 use Rattle.wc_bounds.proofs.BestLemmas.{states_offered, offered_states}
@@ -66,24 +67,41 @@ module _ (facts : List (ℕ × Fact)) (p : Position) where
             ⊎_elim (λ less. absurd (omega arith)) (λ same. same.1) (is.1 of.0 of.1 (record { depth = b.depth; bound = n }) (omega arith) of.2 (ap (offered p) of.3 ∙ states_offered p b.depth n fact states));
       }
 
--- heads are nodes
-module _ (graph : Graph) (is_graph : IsGraph graph) where
-  outermost : (k p q : ℕ) → StepsAt (LeadsIn graph.steps) graph.start k p (Some q) → LeadsIn graph.steps p (Some q)
-  outermost zero p q step = step
-  outermost (suc k) p q step = outermost k p q step.0
+-- a graph and its nest have their places
+pub places_of : (graph : Graph) (nest : Nest) → IsGraph graph → IsNest graph nest → HavePlaces graph nest
+places_of graph nest is_graph is_nest =
+    record {
+      heads = All-weaker (Contains nest.heads) (λ (h : Head). h.node < length graph.nodes) (λ h among. let placed = get_from_contains nest.heads h among in known placed.0 h placed.1) nest.heads (All-contains_itself nest.heads);
+      placed = is_graph.placed;
+      parents = is_graph.parents;
+    }
+  where
+    outermost : (k p q : ℕ) → StepsAt (LeadsIn graph.steps) graph.start k p (Some q) → LeadsIn graph.steps p (Some q)
+    outermost zero p q step = step
+    outermost (suc k) p q step = outermost k p q step.0
 
-  pub head_known : (nest : Nest) → IsNest graph nest → (i : ℕ) (x : Head) → slice_get nest.heads i ≡ Some x → x.node < length graph.nodes
-  head_known nest of i x at =
-      let placed = of.places i x at in
-      let last = placed.1.0 in
-      let step = outermost placed.0 last.0 x.node last.2 in
-      rw step.3 at (All-contains (λ (s : Step). IfSome s.target (λ q. q < length graph.nodes)) graph.steps step.0 is_graph.targets step.1)
+    known : (i : ℕ) (x : Head) → slice_get nest.heads i ≡ Some x → x.node < length graph.nodes
+    known i x at =
+        let placed = is_nest.places i x at in
+        let last = placed.1.0 in
+        let step = outermost placed.0 last.0 x.node last.2 in
+        rw step.3 at (All-contains (λ (s : Step). IfSome s.target (λ q. q < length graph.nodes)) graph.steps step.0 is_graph.targets step.1)
 
-  pub position_for : (i : ℕ) (node : Node) → slice_get graph.nodes i ≡ Some node → (p : Position) × IsAt graph.contexts node p
-  position_for i node at =
-      let within : node.context < length graph.contexts = All-contains (λ (n : Node). n.context < length graph.contexts) graph.nodes node is_graph.placed (contains_from_get graph.nodes i node at) in
-      let calls = calls_for graph.contexts is_graph.parents (node.context + 1) node.context (omega arith) within in
-      (record { calls = calls.0; pc = node.pc }, refl, calls.1)
+pub position_for : (graph : Graph) (nest : Nest) → HavePlaces graph nest → (i : ℕ) (node : Node) → slice_get graph.nodes i ≡ Some node → (p : Position) × IsAt graph.contexts node p
+position_for graph nest places i node at =
+    let within : node.context < length graph.contexts = All-contains (λ (n : Node). n.context < length graph.contexts) graph.nodes node places.placed (contains_from_get graph.nodes i node at) in
+    let calls = calls_for graph.contexts places.parents (node.context + 1) node.context (omega arith) within in
+    (record { calls = calls.0; pc = node.pc }, refl, calls.1)
+
+-- no head is counted yet
+pub tally_first : (graph : Graph) (nest : Nest) (facts : List Fact) (tally : Tally) → tally.of.items ≡ [] → tally.least ≡ None → IsTally graph nest facts 0 tally
+tally_first graph nest facts tally of_is least_is =
+    record {
+      low = λ j x p less. absurd (omega arith);
+      unbounded = λ at is. absurd (none-some at (sym least_is ∙ is));
+      counted = λ none. ap length of_is;
+      bounded = λ none j x b at_x at_b. absurd (none-some b (subst (λ (xs : List ℕ). slice_get xs j ≡ Some b) of_is at_b));
+    }
 
 -- one more head
 module _ (graph : Graph) (nest : Nest) (facts : List Fact) (k : ℕ) (head : Head) (node : Node) (old new : Tally) (at : slice_get nest.heads k ≡ Some head) (node_at : slice_get graph.nodes head.node ≡ Some node) (was : IsTally graph nest facts k old) where

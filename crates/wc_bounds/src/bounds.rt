@@ -1,15 +1,14 @@
-ghost use Rattle.std.specs.Prelude.{◌≡◌, ◌+◌, ◌<◌, ℕ, IfOk, Some, map, length, slice_get, Contains};
+ghost use Rattle.std.specs.Prelude.{◌≡◌, ◌+◌, ◌<◌, IfOk, map, length};
 ghost use Rattle.wc_base.specs.Troubles.{IfFault};
 ghost use Rattle.wc_model.specs.Flow.Bounds.{AreBounds, IsBoundsFault};
-ghost use Rattle.wc_model.specs.Flow.Nest.{IsNest};
-ghost use Rattle.wc_model.specs.Program.Graphs.{IsGraph};
+ghost use Rattle.wc_bounds.specs.Heads.{HavePlaces};
 ghost use Rattle.wc_bounds.specs.Inner.Stated.{IsStated};
 ghost use Rattle.wc_bounds.specs.Inner.Tallies.{lesser_at, IsTally};
 
 use crate::stated::{Stated, stated};
 use std::alloc::{AllocError, Global};
 use wc_base::{Addr, Fault, Trouble};
-use wc_model::{Bounds, Fact, Facts, Graph, Head, Nest, Table};
+use wc_model::{Bounds, Fact, Facts, Graph, Nest, Table};
 
 // The bounds of the heads so far, and the least address of one that has none.
 #[derive(Drop)]
@@ -18,10 +17,10 @@ pub struct Tally {
     pub least: Option<Addr>,
 }
 
-/// The bound of each loop of the nest; or the fault of a loop for which no bound is stated, at the least address.
+/// The bound of each loop of the nest, as back steps for one entry; or the fault of a loop for which no bound is stated,
+/// at the least address.
 pub fn bounds(alloc: Global, graph: &Graph, nest: &Nest, facts: &Facts) -> Result<Bounds, Trouble>
-    requires graph { IsGraph graph.now }
-    requires nest { IsNest graph.now nest.now }
+    requires { HavePlaces graph.now nest.now }
     ensures bounds { IfOk result (λ bounds. AreBounds graph.now nest.now (map (λ f. f.1) facts.now) bounds.of) }
     ensures fault { IfFault result (IsBoundsFault graph.now nest.now (map (λ f. f.1) facts.now)) }
 {
@@ -37,8 +36,7 @@ pub fn bounds(alloc: Global, graph: &Graph, nest: &Nest, facts: &Facts) -> Resul
 }
 
 fn tally(alloc: Global, graph: &Graph, nest: &Nest, facts: &[(u64, Fact)]) -> Result<Tally, AllocError>
-    requires graph { IsGraph graph.now }
-    requires nest { IsNest graph.now nest.now }
+    requires { HavePlaces graph.now nest.now }
     ensures { IfOk result (IsTally graph.now nest.now (map (λ f. f.1) facts.now) (length nest.now.heads)) }
 {
     let stated = stated(alloc, facts)?;
@@ -63,8 +61,7 @@ impl Tally {
         facts: &[(u64, Fact)],
         index: usize,
     ) -> Result<(), AllocError>
-        requires graph { IsGraph graph.now }
-        requires nest { IsNest graph.now nest.now }
+        requires places { HavePlaces graph.now nest.now }
         requires stated { IsStated facts.now (length facts.now) stated.now }
         requires inside { index < length nest.now.heads }
         ensures { IfOk result (λ _. IsTally graph.now nest.now (map (λ f. f.1) facts.now) index self.old → IsTally graph.now nest.now (map (λ f. f.1) facts.now) (index + 1) self.new) }

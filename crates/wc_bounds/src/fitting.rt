@@ -1,27 +1,36 @@
-ghost use Rattle.std.specs.Prelude.{◌≡◌, ◌<◌, ℕ, List, IfSome, Some, reverse, length, slice_get};
+ghost use Rattle.std.specs.Prelude.{◌≡◌, ◌+◌, ◌%◌, ◌^◌, ◌==◌, ◌<◌, ℕ, List, None, if◌then◌else◌, reverse, length};
 ghost use Rattle.wc_model.specs.Flow.Bounds.{AreCalls, calls_fit, fits};
 ghost use Rattle.wc_model.specs.Program.Positions.{Call, Position};
-ghost use Rattle.wc_model.specs.declared.graphs.Context.{Context as OpenCall};
 ghost use Rattle.wc_bounds.specs.Inner.Best.{IsAt, ArePlaced};
 
 use wc_base::Addr;
 use wc_model::{Context, Node};
 
+// The context below an open call, if that call is the one of the instruction at an address.
+fn caller(call: &Context, at: Addr) -> Option<u32>
+    ensures { result ≡ (if call.now.returns == (at + 4) % 2 ^ 32 then call.now.parent else None) }
+{
+    if call.returns == at.wrapping_add(4) {
+        call.parent
+    } else {
+        None
+    }
+}
+
 // Whether the innermost open calls of a context are those of the call string.
-pub fn calls_are(contexts: &[Context], context: u32, within: &[Addr]) -> bool
+fn calls_are(contexts: &[Context], context: u32, within: &[Addr]) -> bool
     requires known { context < length contexts.now }
     requires parents { ArePlaced contexts.now }
     ensures { (calls : List Call) → AreCalls contexts.now context calls → result ≡ calls_fit (reverse within.now) calls }
 {
-    let mut open = context;
-    let mut left = within.len();
-    while left > 0 {
-        let call = contexts[open as usize];
-        match call.parent {
-            Some(parent) if call.returns == within[left - 1].wrapping_add(4) => open = parent,
-            _ => return false,
+    let mut rest = within;
+    let mut inner = context;
+    while let Some((at, outer)) = rest.split_last() {
+        match caller(&contexts[inner as usize], *at) {
+            Some(parent) => inner = parent,
+            None => return false,
         }
-        left -= 1;
+        rest = outer;
     }
     true
 }

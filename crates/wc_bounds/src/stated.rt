@@ -1,5 +1,5 @@
-ghost use Rattle.std.specs.Prelude.{◌≡◌, ◌+◌, ◌<◌, ◌++◌, ◌∷◌, [], IfOk, length};
-ghost use Rattle.std.specs.BTreeMap.{get};
+ghost use Rattle.std.specs.Prelude.{◌≡◌, ◌+◌, ◌<◌, ◌++◌, ◌∷◌, [], IfOk, Some, length};
+ghost use Rattle.std.specs.BTreeMap.{Updates, get};
 ghost use Rattle.std.specs.Ordering.{nat_cmp};
 ghost use Rattle.wc_model.specs.Program.Positions.{Position};
 ghost use Rattle.wc_bounds.specs.Inner.Best.{IsAt, ArePlaced};
@@ -50,14 +50,21 @@ impl Stated {
         requires { index < length facts.now }
         ensures { IfOk result (λ _. IsStated facts.now index self.old → IsStated facts.now (index + 1) self.new) }
     {
-        let before = match address(&facts[index].1) {
-            None => None,
-            Some(at) => match self.last.insert(at, index) {
-                Ok(before) => before,
-                Err(_) => return Err(AllocError),
-            },
-        };
-        self.before.push(before)?;
+        match address(&facts[index].1) {
+            None => self.before.push(None)?,
+            Some(at) => self.put(at, index)?,
+        }
+        Ok(())
+    }
+
+    fn put(&mut self, at: Addr, index: usize) -> Result<(), AllocError>
+        ensures last { IfOk result (λ _. Updates nat_cmp self.old.last self.new.last at (Some index)) }
+        ensures before { IfOk result (λ _. self.new.before.items ≡ self.old.before.items ++ get nat_cmp self.old.last at ∷ []) }
+    {
+        match self.last.insert(at, index) {
+            Ok(before) => self.before.push(before)?,
+            Err(_) => return Err(AllocError),
+        }
         Ok(())
     }
 

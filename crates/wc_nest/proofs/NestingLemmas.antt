@@ -95,6 +95,10 @@ module _ (graph : Graph) (is_graph : IsGraph graph) where
           let placed = below.places i x.0 x.1 in
           subst (λ (q : ℕ). q < length graph.nodes) x.2 (known_class placed.0 x.0.node x.0.node (placed.3.head.0, placed.3.head.0))
 
+  -- without a way there is no step
+  pub no_step : (k : ℕ) (level : Level) → IsLevelAt graph k level → length level.ways.items ≡ 0 → (p q : ℕ) → StepAt graph k p (Some q) → ⊥
+  no_step k level level_is none p q step = let w = way_for (length graph.nodes) (StepAt graph k) graph.start graph.steps level.members.items level.ways.items level_is (graphs k) p q step in omega (arith, w.1.1)
+
   -- what a level needs
   module _ (k : ℕ) (level : Level) (old new : Nesting) (found : Found) (nesting : IsNesting graph k old level) where
     pub few_members : length level.members.items ≤ length graph.nodes
@@ -108,10 +112,6 @@ module _ (graph : Graph) (is_graph : IsGraph graph) where
 
     pub flags_ready : length old.entered.items ≡ length old.search.marks.items
     flags_ready = nesting.flags_counted ∙ sym nesting.marks_counted
-
-    -- without a way there is no step
-    pub no_step : length level.ways.items ≡ 0 → (p q : ℕ) → StepAt graph k p (Some q) → ⊥
-    no_step none p q step = let w = way_for (length graph.nodes) (StepAt graph k) graph.start graph.steps level.members.items level.ways.items nesting.level_is (graphs k) p q step in omega (arith, w.1.1)
 
     module _ (finding : IsFinding graph.start level old new found) where
       marks_found : length new.search.marks.items ≡ length graph.nodes
