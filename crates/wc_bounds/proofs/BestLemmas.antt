@@ -89,23 +89,35 @@ module _ (facts : List (ℕ × Fact)) (p : Position) where
   -- one more fact
   pub one_more : (j : ℕ) (f : ℕ × Fact) (best : Option Best) (offer : Option Best) → slice_get facts j ≡ Some f → offered p f.1 ≡ offer → IsBestFrom facts p (j + 1) best → IsBestFrom facts p j (best_of best offer)
   one_more j f None None at is old i g low at_g = ⊎_elim (λ (same : i ≡ j). let one : f ≡ g = same_Some f g (sym at ∙ ap (slice_get facts) (sym same) ∙ at_g) in ap (λ (h : ℕ × Fact). offered p h.1) (sym one) ∙ is) (λ (other : i ≡ j → ⊥). old i g (omega arith) at_g) (cases_eq i j)
-  one_more j f None (Some c) at is old = ((j, f, at, is), λ i g d low at_g offers. ⊎_elim
-      (λ (same : i ≡ j). let one : f ≡ g = same_Some f g (sym at ∙ ap (slice_get facts) (sym same) ∙ at_g) in let is_c : c ≡ d = same_Some c d (sym is ∙ ap (λ (h : ℕ × Fact). offered p h.1) one ∙ offers) in inr (ap (λ (x : Best). x.depth) (sym is_c), omega (arith, ap (λ (x : Best). x.bound) is_c)))
-      (λ (other : i ≡ j → ⊥). absurd (none-some d (sym (old i g (omega arith) at_g) ∙ offers)))
-      (cases_eq i j))
-  one_more j f (Some b) None at is old = (old.0, λ i g d low at_g offers. ⊎_elim
-      (λ (same : i ≡ j). let one : f ≡ g = same_Some f g (sym at ∙ ap (slice_get facts) (sym same) ∙ at_g) in absurd (none-some d (sym is ∙ ap (λ (h : ℕ × Fact). offered p h.1) one ∙ offers)))
-      (λ (other : i ≡ j → ⊥). old.1 i g d (omega arith) at_g offers)
-      (cases_eq i j))
+  one_more j f None (Some c) at is old = (
+    (j, f, at, is),
+    λ i g d low at_g offers. ⊎_elim
+        (λ (same : i ≡ j). let one : f ≡ g = same_Some f g (sym at ∙ ap (slice_get facts) (sym same) ∙ at_g) in let is_c : c ≡ d = same_Some c d (sym is ∙ ap (λ (h : ℕ × Fact). offered p h.1) one ∙ offers) in inr (ap (λ (x : Best). x.depth) (sym is_c), omega (arith, ap (λ (x : Best). x.bound) is_c)))
+        (λ (other : i ≡ j → ⊥). absurd (none-some d (sym (old i g (omega arith) at_g) ∙ offers)))
+        (cases_eq i j),
+  )
+  one_more j f (Some b) None at is old = (
+    old.0,
+    λ i g d low at_g offers. ⊎_elim
+        (λ (same : i ≡ j). let one : f ≡ g = same_Some f g (sym at ∙ ap (slice_get facts) (sym same) ∙ at_g) in absurd (none-some d (sym is ∙ ap (λ (h : ℕ × Fact). offered p h.1) one ∙ offers)))
+        (λ (other : i ≡ j → ⊥). old.1 i g d (omega arith) at_g offers)
+        (cases_eq i j),
+  )
   one_more j f (Some b) (Some c) at is old = ⊎_elim
-      (λ keep. let same : b ≡ better b c = sym keep.0 in subst (λ (x : Best). IsBestFrom facts p j (Some x)) same (old.0, λ i g d low at_g offers. ⊎_elim
-      (λ (here_i : i ≡ j). subst (λ (x : Best). (x.depth < b.depth) ⊎ ((x.depth ≡ b.depth) × (b.bound ≤ x.bound))) (offer_is i g d here_i at_g offers) (beats_apart b c keep.1))
-      (λ (other : i ≡ j → ⊥). old.1 i g d (omega arith) at_g offers)
-      (cases_eq i j)))
-      (λ new. let same : c ≡ better b c = sym new.0 in subst (λ (x : Best). IsBestFrom facts p j (Some x)) same ((j, f, at, is), λ i g d low at_g offers. ⊎_elim
-      (λ (here_i : i ≡ j). subst (λ (x : Best). (x.depth < c.depth) ⊎ ((x.depth ≡ c.depth) × (c.bound ≤ x.bound))) (offer_is i g d here_i at_g offers) (beats_apart c c (beats_self c)))
-      (λ (other : i ≡ j → ⊥). beats_apart c d (beats_then c b d new.1 (beats_together b d (old.1 i g d (omega arith) at_g offers))))
-      (cases_eq i j)))
+      (λ keep. let same : b ≡ better b c = sym keep.0 in subst (λ (x : Best). IsBestFrom facts p j (Some x)) same (
+        old.0,
+        λ i g d low at_g offers. ⊎_elim
+            (λ (here_i : i ≡ j). subst (λ (x : Best). (x.depth < b.depth) ⊎ ((x.depth ≡ b.depth) × (b.bound ≤ x.bound))) (offer_is i g d here_i at_g offers) (beats_apart b c keep.1))
+            (λ (other : i ≡ j → ⊥). old.1 i g d (omega arith) at_g offers)
+            (cases_eq i j),
+      ))
+      (λ new. let same : c ≡ better b c = sym new.0 in subst (λ (x : Best). IsBestFrom facts p j (Some x)) same (
+        (j, f, at, is),
+        λ i g d low at_g offers. ⊎_elim
+            (λ (here_i : i ≡ j). subst (λ (x : Best). (x.depth < c.depth) ⊎ ((x.depth ≡ c.depth) × (c.bound ≤ x.bound))) (offer_is i g d here_i at_g offers) (beats_apart c c (beats_self c)))
+            (λ (other : i ≡ j → ⊥). beats_apart c d (beats_then c b d new.1 (beats_together b d (old.1 i g d (omega arith) at_g offers))))
+            (cases_eq i j),
+      ))
       (better_is b c)
     where
       offer_is : (i : ℕ) (g : ℕ × Fact) (d : Best) → i ≡ j → slice_get facts i ≡ Some g → offered p g.1 ≡ Some d → c ≡ d

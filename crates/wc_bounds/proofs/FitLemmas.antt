@@ -1,10 +1,11 @@
 -- Call strings, from the innermost call on, and the calls of a context.
-use Rattle.std.proofs.Common.{ℕ, zero, suc, ◌≡◌, ◌+◌, ◌%◌, ◌^◌, ◌<◌, Bool, true, false, ◌==◌, ◌&&◌, if◌then◌else◌, List, [], ◌∷◌, Option, None, Some, IfSome, length, refl, sym, ap, subst, ◌∙◌, arith}
+use Rattle.std.proofs.Common.{ℕ, zero, suc, ◌≡◌, ◌+◌, ◌%◌, ◌^◌, ◌<◌, Bool, true, false, ◌==◌, ◌&&◌, if◌then◌else◌, List, [], ◌∷◌, reverse, Option, None, Some, IfSome, length, refl, sym, ap, subst, ◌∙◌, arith}
 use Rattle.std.specs.List.{slice_get}
+use Rattle.std.proofs.lemmas.Bool.{eq-eqb, ne_eqb}
 use Rattle.std.proofs.lemmas.Option.{none-some, same_Some}
 use Rattle.wc_model.specs.declared.graphs.Context.{Context}
-use Rattle.wc_model.specs.Flow.Bounds.{AreCalls, calls_fit}
-use Rattle.wc_model.specs.Program.Positions.{Call}
+use Rattle.wc_model.specs.Flow.Bounds.{AreCalls, calls_fit, fits}
+use Rattle.wc_model.specs.Program.Positions.{Call, Position}
 use Rattle.wc_model.proofs.Places.{get_within}
 use Rattle.wc_bounds.specs.Inner.Best.{ArePlaced}
 
@@ -21,6 +22,13 @@ calls_for contexts placed (suc n) k less within =
         let low : j < k = rw is at (placed k c at) in
         let rest = below j low in
         ((record { returns = c.returns; callee = c.callee }) ∷ rest.0, (c, j, at, is, refl, refl, rest.1))
+
+-- the address comes first
+pub fits_nowhere : (n at : ℕ) (within : List ℕ) (p : Position) → n ≡ p.pc → (n ≡ at → ⊥) → false ≡ fits at within p
+fits_nowhere n at within p is other = sym (ap (λ (b : Bool). b && calls_fit (reverse within) p.calls) (ne_eqb p.pc at (λ same. other (is ∙ same))))
+
+pub fits_there : (n at : ℕ) (within : List ℕ) (p : Position) → n ≡ p.pc → n ≡ at → fits at within p ≡ calls_fit (reverse within) p.calls
+fits_there n at within p is same = ap (λ (b : Bool). b && calls_fit (reverse within) p.calls) (eq-eqb p.pc at (sym is ∙ same))
 
 -- the innermost call of a call string, and the rest of it
 module _ (contexts : List Context) (k at : ℕ) (ats : List ℕ) (c : Context) (there : slice_get contexts k ≡ Some c) where

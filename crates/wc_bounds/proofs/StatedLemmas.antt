@@ -15,7 +15,7 @@ use Rattle.wc_model.proofs.Places.{get_push_cases}
 use Rattle.wc_bounds.specs.declared.best.Best.{Best}
 use Rattle.wc_bounds.specs.declared.stated.Stated.{Stated}
 use Rattle.wc_bounds.specs.Inner.Best.{offered, best_of}
-use Rattle.wc_bounds.specs.Inner.Stated.{loop_at, IsLoopAt, IsLatest, IsStated, IsBestFrom}
+use Rattle.wc_bounds.specs.Inner.Stated.{loop_at, IsLoopAt, IsLatest, IsPut, IsStated, IsBestFrom}
 use Rattle.wc_bounds.proofs.BestLemmas.{states_at, offered_states, lower, one_more}
 
 other_key : (x y : ℕ) → (x ≡ y → ⊥) → is_eq (nat_cmp x y) ≡ false
@@ -50,13 +50,13 @@ module _ (facts : List (ℕ × Fact)) (k : ℕ) (f : ℕ × Fact) (there : slice
         other : (at : ℕ) → IsLoopAt facts k at → ⊥
         other at of = none-some at (sym none ∙ address_is at of)
 
-    pub stated_loop : (at : ℕ) → loop_at f.1 ≡ Some at → Updates nat_cmp old.last new.last at (Some k) → new.before.items ≡ old.before.items ++ get nat_cmp old.last at ∷ [] → IsStated facts (k + 1) new
-    stated_loop at is last before =
+    pub stated_loop : (at : ℕ) → loop_at f.1 ≡ Some at → IsPut at k old new → IsStated facts (k + 1) new
+    stated_loop at is put =
         record {
-          counted = ap length before ∙ length_push old.before.items (get nat_cmp old.last at) ∙ ap (λ (n : ℕ). n + 1) was.counted;
+          counted = ap length put.before ∙ length_push old.before.items (get nat_cmp old.last at) ∙ ap (λ (n : ℕ). n + 1) was.counted;
           last = λ q. ⊎_elim
-              (λ (same : at ≡ q). subst (λ (n : ℕ). IsLatest facts n (k + 1) (get nat_cmp new.last n)) same (subst (λ (o : Option ℕ). IsLatest facts at (k + 1) o) (sym last.1) (omega arith, (f, there, is), λ i low less. absurd (omega arith))))
-              (λ (other : at ≡ q → ⊥). subst (λ (o : Option ℕ). IsLatest facts q (k + 1) o) (sym (last.2 q (other_key at q other))) (still_latest q (get nat_cmp old.last q) (λ of. other (same_Some at q (sym is ∙ address_is q of))) (was.last q)))
+              (λ (same : at ≡ q). subst (λ (n : ℕ). IsLatest facts n (k + 1) (get nat_cmp new.last n)) same (subst (λ (o : Option ℕ). IsLatest facts at (k + 1) o) (sym put.last.1) (omega arith, (f, there, is), λ i low less. absurd (omega arith))))
+              (λ (other : at ≡ q → ⊥). subst (λ (o : Option ℕ). IsLatest facts q (k + 1) o) (sym (put.last.2 q (other_key at q other))) (still_latest q (get nat_cmp old.last q) (λ of. other (same_Some at q (sym is ∙ address_is q of))) (was.last q)))
               (cases_eq at q);
           before = λ i q o at_o of. ⊎_elim
               (λ earlier. was.before i q o earlier of)
@@ -65,7 +65,7 @@ module _ (facts : List (ℕ × Fact)) (k : ℕ) (f : ℕ × Fact) (there : slice
               let one : at ≡ q = same_Some at q (sym is ∙ address_is q (subst (λ (n : ℕ). IsLoopAt facts n q) same of)) in
               let of_at : IsLatest facts at k o = subst (λ (x : Option ℕ). IsLatest facts at k x) now.1 (was.last at) in
               subst (λ (n : ℕ). IsLatest facts q n o) (sym same) (subst (λ (n : ℕ). IsLatest facts n k o) one of_at))
-              (get_push_cases old.before.items (get nat_cmp old.last at) i o (subst (λ (xs : List (Option ℕ)). slice_get xs i ≡ Some o) before at_o));
+              (get_push_cases old.before.items (get nat_cmp old.last at) i o (subst (λ (xs : List (Option ℕ)). slice_get xs i ≡ Some o) put.before at_o));
         }
 
 pub stated_first : (facts : List (ℕ × Fact)) (s : Stated) → ((at : ℕ) → get nat_cmp s.last at ≡ None) → s.before.items ≡ [] → IsStated facts 0 s

@@ -21,7 +21,7 @@ use Rattle.wc_bounds.specs.declared.bounds.Tally.{Tally}
 use Rattle.wc_bounds.specs.Heads.{HavePlaces}
 use Rattle.wc_bounds.specs.Inner.Best.{offered, IsAt}
 use Rattle.wc_bounds.specs.Inner.Stated.{IsBestFrom}
-use Rattle.wc_bounds.specs.Inner.Tallies.{lesser_at, HasBound, IsTally}
+use Rattle.wc_bounds.specs.Inner.Tallies.{lesser_at, HasBound, IsCounted, IsNodeOf, IsTally}
 use Rattle.wc_bounds.proofs.BestLemmas.{states_offered, offered_states}
 use Rattle.wc_bounds.proofs.FitLemmas.{calls_for}
 
@@ -160,14 +160,33 @@ module _ (graph : Graph) (nest : Nest) (facts : List Fact) (k : ℕ) (head : Hea
           (λ (high : node.pc ≤ before). this low_at (rw (le-ltb before node.pc high) at is))
           (cases_lt before node.pc)
 
+-- a head with its best bound
+module _ (graph : Graph) (nest : Nest) (places : HavePlaces graph nest) (facts : List (ℕ × Fact)) (k : ℕ) (node : Node) (of : IsNodeOf graph nest k node) (old new : Tally) where
+  abbrev stated : List Fact
+  stated = map (λ (f : ℕ × Fact). f.1) facts
+
+  pub count_some : (b : Best) → ((p : Position) → IsAt graph.contexts node p → IsBestFrom facts p 0 (Some b)) → new.of.items ≡ old.of.items ++ b.bound ∷ [] → new.least ≡ old.least → IsCounted graph nest facts k old new
+  count_some b best of_is least_is was =
+      let p = position_for graph nest places of.0.node node of.2 in
+      counts_bound graph nest stated k of.0 node old new of.1 of.2 was p.0 b.bound p.1 (bound_is facts p.0 b (best p.0 p.1)) (λ q is_at none. let some = (bound_is facts q b (best q is_at)).stated in none some.0 (bound_is facts q b (best q is_at)).depth b.bound some.1 some.2) of_is least_is
+
+  pub count_none : ((p : Position) → IsAt graph.contexts node p → IsBestFrom facts p 0 None) → new.least ≡ Some (lesser_at old.least node.pc) → IsCounted graph nest facts k old new
+  count_none best least_is was =
+      let p = position_for graph nest places of.0.node node of.2 in
+      counts_none graph nest stated k of.0 node old new of.1 of.2 was p.0 p.1 (λ q is_at. no_bound facts q (best q is_at)) least_is
+
 -- all heads
 pub bounds_from : (graph : Graph) (nest : Nest) (facts : List Fact) (tally : Tally) → IsTally graph nest facts (length nest.heads) tally → tally.least ≡ None → AreBounds graph nest facts tally.of.items
 bounds_from graph nest facts tally is none = zip_from (HasBound graph nest facts) nest.heads tally.of.items (sym (is.counted none)) (λ i head bound at_head at_bound. is.bounded none i head bound at_head at_bound)
 
 pub least_from : (graph : Graph) (nest : Nest) (facts : List Fact) (tally : Tally) (low_at : ℕ) → IsTally graph nest facts (length nest.heads) tally → tally.least ≡ Some low_at → (p : Position) × IsUnbounded graph nest facts p × (p.pc ≡ low_at) × ((q : Position) → IsUnbounded graph nest facts q → p.pc ≤ q.pc)
 least_from graph nest facts tally low_at is some =
-    let found = is.unbounded low_at some in
-    (found.0, found.1, found.2, λ q unbounded.
-        let placed = get_from_contains nest.heads unbounded.0 unbounded.1 in
-        let low = is.low placed.0 unbounded.0 q (slice_get_within nest.heads placed.0 unbounded.0 placed.1) placed.1 unbounded.2 unbounded.3 in
-        omega (arith, low.2, same_Some low_at low.0 (sym some ∙ low.1), found.2))
+    let found = is.unbounded low_at some in (
+      found.0,
+      found.1,
+      found.2,
+      λ q unbounded.
+          let placed = get_from_contains nest.heads unbounded.0 unbounded.1 in
+          let low = is.low placed.0 unbounded.0 q (slice_get_within nest.heads placed.0 unbounded.0 placed.1) placed.1 unbounded.2 unbounded.3 in
+          omega (arith, low.2, same_Some low_at low.0 (sym some ∙ low.1), found.2),
+    )

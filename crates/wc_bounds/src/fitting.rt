@@ -1,7 +1,7 @@
 ghost use Rattle.std.specs.Prelude.{◌≡◌, ◌+◌, ◌%◌, ◌^◌, ◌==◌, ◌<◌, ℕ, List, None, if◌then◌else◌, reverse, length};
-ghost use Rattle.wc_model.specs.Flow.Bounds.{AreCalls, calls_fit, fits};
-ghost use Rattle.wc_model.specs.Program.Positions.{Call, Position};
-ghost use Rattle.wc_bounds.specs.Inner.Best.{IsAt, ArePlaced};
+ghost use Rattle.wc_model.specs.Flow.Bounds.{fits};
+ghost use Rattle.wc_model.specs.Program.Positions.{Position};
+ghost use Rattle.wc_bounds.specs.Inner.Best.{IsAt, ArePlaced, IsFitting};
 
 use wc_base::Addr;
 use wc_model::{Context, Node};
@@ -21,7 +21,7 @@ fn caller(call: &Context, at: Addr) -> Option<u32>
 fn calls_are(contexts: &[Context], context: u32, within: &[Addr]) -> bool
     requires known { context < length contexts.now }
     requires parents { ArePlaced contexts.now }
-    ensures { (calls : List Call) → AreCalls contexts.now context calls → result ≡ calls_fit (reverse within.now) calls }
+    ensures { IsFitting contexts.now context within.now result }
 {
     let mut rest = within;
     let mut inner = context;
@@ -41,5 +41,8 @@ pub fn is_fitting(contexts: &[Context], node: &Node, at: Addr, within: &[Addr]) 
     requires parents { ArePlaced contexts.now }
     ensures { (p : Position) → IsAt contexts.now node.now p → result ≡ fits at within.now p }
 {
-    node.pc == at && calls_are(contexts, node.context, within)
+    if node.pc != at {
+        return false;
+    }
+    calls_are(contexts, node.context, within)
 }

@@ -8,3 +8,6 @@ mod fitting;
 mod stated;
 
 pub use bounds::bounds;
+
+#[cfg(test)]
+mod tests;

@@ -1,9 +1,7 @@
-ghost use Rattle.std.specs.Prelude.{◌≡◌, ◌+◌, ◌<◌, ◌++◌, ◌∷◌, [], IfOk, Some, length};
-ghost use Rattle.std.specs.BTreeMap.{Updates, get};
-ghost use Rattle.std.specs.Ordering.{nat_cmp};
+ghost use Rattle.std.specs.Prelude.{◌≡◌, ◌<◌, IfOk, length};
 ghost use Rattle.wc_model.specs.Program.Positions.{Position};
 ghost use Rattle.wc_bounds.specs.Inner.Best.{IsAt, ArePlaced};
-ghost use Rattle.wc_bounds.specs.Inner.Stated.{loop_at, IsStated, IsBestFrom};
+ghost use Rattle.wc_bounds.specs.Inner.Stated.{loop_at, IsAdded, IsPut, IsStated, IsBestFrom};
 
 use crate::best::{Best, with_fact};
 use std::alloc::{AllocError, Global};
@@ -18,7 +16,7 @@ pub struct Stated {
     pub before: Vec<Option<usize>>,
 }
 
-pub fn stated(alloc: Global, facts: &[(u64, Fact)]) -> Result<Stated, AllocError>
+pub fn stated_bounds(alloc: Global, facts: &[(u64, Fact)]) -> Result<Stated, AllocError>
     ensures { IfOk result (IsStated facts.now (length facts.now)) }
 {
     let mut stated = Stated {
@@ -48,7 +46,7 @@ fn address(fact: &Fact) -> Option<Addr>
 impl Stated {
     fn add(&mut self, facts: &[(u64, Fact)], index: usize) -> Result<(), AllocError>
         requires { index < length facts.now }
-        ensures { IfOk result (λ _. IsStated facts.now index self.old → IsStated facts.now (index + 1) self.new) }
+        ensures { IfOk result (λ _. IsAdded facts.now index self.old self.new) }
     {
         match address(&facts[index].1) {
             None => self.before.push(None)?,
@@ -58,8 +56,7 @@ impl Stated {
     }
 
     fn put(&mut self, at: Addr, index: usize) -> Result<(), AllocError>
-        ensures last { IfOk result (λ _. Updates nat_cmp self.old.last self.new.last at (Some index)) }
-        ensures before { IfOk result (λ _. self.new.before.items ≡ self.old.before.items ++ get nat_cmp self.old.last at ∷ []) }
+        ensures { IfOk result (λ _. IsPut at index self.old self.new) }
     {
         match self.last.insert(at, index) {
             Ok(before) => self.before.push(before)?,

@@ -93,9 +93,10 @@ module _ (graph : Graph) (to : ℕ) (members : List ℕ) (ways : List Way) (leve
         subst (λ (k : ℕ). slice_get (back_ways marks entered graph.start back ways) k ≡ Some true) w.2 flagged
 
     pub backs_now : (i : ℕ) (s : Step) → slice_get graph.steps i ≡ Some s → (slice_get (back_ways marks entered graph.start back ways) i ≡ Some true → (slice_get back i ≡ Some true) ⊎ GoesBackAt graph to s) × ((slice_get back i ≡ Some true) ⊎ GoesBackAt graph to s → slice_get (back_ways marks entered graph.start back ways) i ≡ Some true)
-    backs_now i s at =
-        (λ is. ⊎_elim (λ before. inl before) (λ new. inr (goes i s new.0 at new.1 new.2 new.3)) (flag_from (is_back marks entered graph.start) (λ (w : Way). w.place) back ways i is),
-        λ of. ⊎_elim (λ before. flag_kept (is_back marks entered graph.start) (λ (w : Way). w.place) back ways i before) (λ new. flags i s at new) of)
+    backs_now i s at = (
+      λ is. ⊎_elim (λ before. inl before) (λ new. inr (goes i s new.0 at new.1 new.2 new.3)) (flag_from (is_back marks entered graph.start) (λ (w : Way). w.place) back ways i is),
+      λ of. ⊎_elim (λ before. flag_kept (is_back marks entered graph.start) (λ (w : Way). w.place) back ways i before) (λ new. flags i s at new) of,
+    )
 
   -- heads
   module _ (heads : List Head) (inside places : List (Option ℕ)) (back : List Bool) (l : Listed) (listing : AreListed marks looped pairs (record { heads = heads; inside = inside; places = places }) members l) (single : IsSingle (StepAt graph to) graph.start) (back_counted : length back ≡ length graph.steps) where
@@ -105,12 +106,20 @@ module _ (graph : Graph) (to : ℕ) (members : List ℕ) (ways : List Way) (leve
         let led = leads_of place.least among place.loop in
         let head = first_of place.least place.node among led (ap (λ (n : ℕ). (pair_at pairs n).first) place.is_least.1 ∙ place.first) in
         let among_node = member_of place.node head.0.0 in
-        let number : class_number marks place.node ≡ c = number_of_class place.node place.least among_node among head.1 ∙ place.is_least.1 in
-        (record { node = place.node; parent = slice_index_or inside place.least None }, place.head_is, place.least,
-        record { head = head.0; member = (head.1.1, head.1.0); below = λ q both.
-            let among_q = member_of q (together_self (StepAt graph to) graph.start q place.node both) in
-            place.is_least.2 q among_q (number_of_class q place.node among_q among_node both ∙ number) },
-        refl, number)
+        let number : class_number marks place.node ≡ c = number_of_class place.node place.least among_node among head.1 ∙ place.is_least.1 in (
+          record { node = place.node; parent = slice_index_or inside place.least None },
+          place.head_is,
+          place.least,
+          record {
+            head = head.0;
+            member = (head.1.1, head.1.0);
+            below = λ q both.
+                let among_q = member_of q (together_self (StepAt graph to) graph.start q place.node both) in
+                place.is_least.2 q among_q (number_of_class q place.node among_q among_node both ∙ number);
+          },
+          refl,
+          number,
+        )
 
     listed_head : (i : ℕ) (x : Head) → length heads ≤ i → slice_get l.heads i ≡ Some x → (c : ℕ) × (slice_get l.places c ≡ Some (Some i)) × (least : ℕ) × IsListed graph to x.node least × (x.parent ≡ slice_index_or inside least None) × (class_number marks x.node ≡ c)
     listed_head i x later at =
@@ -123,22 +132,33 @@ module _ (graph : Graph) (to : ℕ) (members : List ℕ) (ways : List Way) (leve
     least_is : (c : ℕ) (x : Head) (least : ℕ) → IsListed graph to x.node least → class_number marks x.node ≡ c → IsLeastOf marks looped pairs (record { heads = heads; inside = inside; places = places }) members c least
     least_is c x least is number =
         let among_x = member_of x.node is.head.0 in
-        let among = member_of least (together_self (StepAt graph to) graph.start least x.node is.member) in
-        (among, number_of_class least x.node among among_x is.member ∙ number, λ q among_q number_q. ⊎_elim
-            (λ (same : q ≡ x.node). is.below q (subst (λ (z : ℕ). ClassAt graph to z x.node) (sym same) (is.head.0, is.head.0)))
-            (λ both. is.below q both)
-            (class_of_number q x.node among_q among_x (number_q ∙ sym number)))
+        let among = member_of least (together_self (StepAt graph to) graph.start least x.node is.member) in (
+          among,
+          number_of_class least x.node among among_x is.member ∙ number,
+          λ q among_q number_q. ⊎_elim
+              (λ (same : q ≡ x.node). is.below q (subst (λ (z : ℕ). ClassAt graph to z x.node) (sym same) (is.head.0, is.head.0)))
+              (λ both. is.below q both)
+              (class_of_number q x.node among_q among_x (number_q ∙ sym number)),
+        )
 
     class_head : (p : ℕ) → ClassAt graph to p p → (i : ℕ) × (slice_get l.places (class_number marks p) ≡ Some (Some i)) × IsHeadFor graph l.heads to i p
     class_head p both =
         let among = member_of p both.0 in
         let there = listing.of_member p among (loop_of p both.0) in
         let of = head_of_place (class_number marks p) there.0 (listing.place_of (class_number marks p) there.0 there.1) in
-        let among_x = member_of of.0.node of.3.head.0 in
-        (there.0, there.1, (of.0, of.1, of.3.head, ⊎_elim
-            (λ (same : of.0.node ≡ p). subst (λ (z : ℕ). ClassAt graph to z p) (sym same) both)
-            (λ together. together)
-            (class_of_number of.0.node p among_x among of.5)))
+        let among_x = member_of of.0.node of.3.head.0 in (
+          there.0,
+          there.1,
+          (
+            of.0,
+            of.1,
+            of.3.head,
+            ⊎_elim
+                (λ (same : of.0.node ≡ p). subst (λ (z : ℕ). ClassAt graph to z p) (sym same) both)
+                (λ together. together)
+                (class_of_number of.0.node p among_x among of.5),
+          ),
+        )
 
     pub nest_at : IsNestAt graph to heads inside back l.heads l.inside (back_ways marks entered graph.start back ways)
     nest_at =

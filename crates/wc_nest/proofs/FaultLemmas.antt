@@ -145,9 +145,15 @@ module _ (nodes : ℕ) (R : ℕ → Option ℕ → Type 0) (start : ℕ) (steps 
             let led_h = together_self R start h q pair in
             record {
               head = with_least q enters_q led_q;
-              first = (h, omega (arith, noted.2), with_least h noted.0 led_h, pair, λ p less head both.
-                  let among = head_member p head in
-                  noted.3 p (omega arith) (among, same_number p q among enters_q.0 both ∙ enters_q.1, (enters p head).2));
+              first = (
+                h,
+                omega (arith, noted.2),
+                with_least h noted.0 led_h,
+                pair,
+                λ p less head both.
+                    let among = head_member p head in
+                    noted.3 p (omega arith) (among, same_number p q among enters_q.0 both ∙ enters_q.1, (enters p head).2),
+              );
               member = ⊎_elim (λ (e : first_two.least ≡ q). subst (λ (x : ℕ). Together start R x q) (sym e) (led_q, led_q)) (λ both. both) (together_of first_two.least q least_member enters_q.0 (sym enters_q.1));
               below = λ p both less.
                   let among = led_member nodes R start steps members ways level graphs q p both.1 in
@@ -161,6 +167,6 @@ module _ (nodes : ℕ) (R : ℕ → Option ℕ → Type 0) (start : ℕ) (steps 
         let number_p : class_number marks p ≡ class_number marks m = sym (same_number m p among_m (head_member p second.head) second.member) in
         let number_f : class_number marks f.0 ≡ class_number marks m = same_number f.0 p (head_member f.0 f.2) (head_member p second.head) f.3 ∙ number_p in
         two_heads (class_number marks m) f.0 p (pair_at pairs (class_number marks m)).first (pair_at pairs (class_number marks m)).second f.1 (noted_of m among_m)
-            (subst (λ (c : ℕ). EntersIn marks entered start members c f.0) number_f (enters f.0 f.2))
-            (subst (λ (c : ℕ). EntersIn marks entered start members c p) number_p (enters p second.head))
-            (earlier m among_m less)
+        (subst (λ (c : ℕ). EntersIn marks entered start members c f.0) number_f (enters f.0 f.2))
+        (subst (λ (c : ℕ). EntersIn marks entered start members c p) number_p (enters p second.head))
+        (earlier m among_m less)

@@ -61,8 +61,8 @@ module _ (marks : List Mark) (entered : List Bool) (start : ℕ) where
   note_rest members pairs (p ∷ ps) rises low known old =
       let new : AreNoted marks entered start (members ++ p ∷ []) (note_node marks entered start pairs p) = note_more members pairs p (is_entered entered start p) refl (λ y among. low y p among (contains_head p ps)) (known p (contains_head p ps)) old in
       let all = note_rest (members ++ p ∷ []) (note_node marks entered start pairs p) ps (rises_tail p ps rises)
-          (λ y x in_y in_x. ⊎_elim (λ (before : Contains members y). low y x before (contains_tail p ps x in_x)) (λ (same : p ≡ y). let less : p < x = rises_head p ps x rises in_x in omega arith) (Contains-push_cases members p y in_y))
-          (λ x among. let less : class_number marks x < length pairs = known x (contains_tail p ps x among) in omega (arith, one_length pairs p (is_entered entered start p) refl)) new in
+      (λ y x in_y in_x. ⊎_elim (λ (before : Contains members y). low y x before (contains_tail p ps x in_x)) (λ (same : p ≡ y). let less : p < x = rises_head p ps x rises in_x in omega arith) (Contains-push_cases members p y in_y))
+      (λ x among. let less : class_number marks x < length pairs = known x (contains_tail p ps x among) in omega (arith, one_length pairs p (is_entered entered start p) refl)) new in
       subst (λ (xs : List ℕ). AreNoted marks entered start xs (note_nodes marks entered start (note_node marks entered start pairs p) ps)) (append_assoc members (p ∷ []) ps) all
 
   none_noted : (count : ℕ) → AreNoted marks entered start [] (replicate count no_heads)

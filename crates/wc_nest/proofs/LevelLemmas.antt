@@ -222,9 +222,10 @@ module _ (nodes : ℕ) (R : ℕ → Option ℕ → Type 0) (start : ℕ) (steps 
             ends = λ w among.
                 let of = inner_from w among in
                 let ends = level.ends w of.0 in
-                let both = of.1.1 in
-                (filter_to (is_looped marks looped) members w.source ends.0 (leads_looped looped are_looped w.source (together_self R start w.source w.target both)),
-                filter_to (is_looped marks looped) members w.target ends.1 (leads_looped looped are_looped w.target (together_self R start w.target w.source (both.1, both.0))));
+                let both = of.1.1 in (
+                  filter_to (is_looped marks looped) members w.source ends.0 (leads_looped looped are_looped w.source (together_self R start w.source w.target both)),
+                  filter_to (is_looped marks looped) members w.target ends.1 (leads_looped looped are_looped w.target (together_self R start w.target w.source (both.1, both.0))),
+                );
             sound = λ w among. let of = inner_from w among in ((level.sound w of.0).0, of.1);
             all = λ i s q at to led.
                 let w = level.all i s q at to led.0 in

@@ -1,4 +1,5 @@
 pub mod AddingLemmas
+pub mod CheckLemmas
 pub mod ClassLemmas
 pub mod FaultLemmas
 pub mod FlagLemmas
@@ -8,7 +9,6 @@ pub mod ListLemmas
 pub mod ListingLemmas
 pub mod MarkingLemmas
 pub mod NestLemmas
-pub mod NestedLemmas
 pub mod NestingLemmas
 pub mod RelationLemmas
 pub mod RoundLemmas

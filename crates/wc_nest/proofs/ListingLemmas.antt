@@ -39,10 +39,14 @@ module _ (marks : List Mark) (looped : List Bool) (pairs : List Pair) (old : Lis
 
     -- the least member of a class with a place stays so
     least_kept : (c q : ℕ) → IsLeastOf marks looped pairs old members c q → IsLeastOf marks looped pairs old (members ++ p ∷ []) c q
-    least_kept c q is = (Contains-append_left members (p ∷ []) q is.0, is.1, λ r among number. ⊎_elim
-        (λ (before : Contains members r). is.2 r before number)
-        (λ (same : p ≡ r). let less : q < p = low q is.0 in omega arith)
-        (Contains-push_cases members p r among))
+    least_kept c q is = (
+      Contains-append_left members (p ∷ []) q is.0,
+      is.1,
+      λ r among number. ⊎_elim
+          (λ (before : Contains members r). is.2 r before number)
+          (λ (same : p ≡ r). let less : q < p = low q is.0 in omega arith)
+          (Contains-push_cases members p r among),
+    )
 
     least_old : (c i q : ℕ) → slice_get l.places c ≡ Some (Some i) → IsLeastOf marks looped pairs old (members ++ p ∷ []) c q → IsLeastOf marks looped pairs old members c q
     least_old c i q at is =
@@ -228,8 +232,8 @@ module _ (marks : List Mark) (looped : List Bool) (pairs : List Pair) (old : Lis
       let of_p = known p (contains_head p ps) in
       let new = list_more members p l (is_looped marks looped p) refl was (λ y among. low y p among (contains_head p ps)) of_p.0 of_p.1 of_p.2 in
       let all = list_rest (members ++ p ∷ []) (list_node marks looped pairs l p) ps (rises_tail p ps rises)
-          (λ y x in_y in_x. ⊎_elim (λ (before : Contains members y). low y x before (contains_tail p ps x in_x)) (λ (same : p ≡ y). let less : p < x = rises_head p ps x rises in_x in omega arith) (Contains-push_cases members p y in_y))
-          (λ x among. known x (contains_tail p ps x among)) new in
+      (λ y x in_y in_x. ⊎_elim (λ (before : Contains members y). low y x before (contains_tail p ps x in_x)) (λ (same : p ≡ y). let less : p < x = rises_head p ps x rises in_x in omega arith) (Contains-push_cases members p y in_y))
+      (λ x among. known x (contains_tail p ps x among)) new in
       subst (λ (xs : List ℕ). AreListed marks looped pairs old xs (list_nodes marks looped pairs (list_node marks looped pairs l p) ps)) (append_assoc members (p ∷ []) ps) all
 
   none_listed : ((c i : ℕ) → slice_get old.places c ≡ Some (Some i) → ⊥) → AreListed marks looped pairs old [] old

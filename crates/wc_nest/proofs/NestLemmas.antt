@@ -121,10 +121,15 @@ module _ (graph : Graph) where
           (λ (less : 0 < to). is less looped)
           (λ (zero_to : to ≤ 0). let same : 0 ≡ to = omega arith in none (subst (λ (n : ℕ). ClassAt graph n p p) same looped))
           (cases_lt 0 to)
-      still_inside p (Some i) none (k, less, of, other) = (k, omega arith, head_for k i p of, λ within looped. ⊎_elim
-          (λ (lower : suc k < to). other lower looped)
-          (λ (top : to ≤ suc k). let same : suc k ≡ to = omega arith in none (subst (λ (n : ℕ). ClassAt graph n p p) same looped))
-          (cases_lt (suc k) to))
+      still_inside p (Some i) none (k, less, of, other) = (
+        k,
+        omega arith,
+        head_for k i p of,
+        λ within looped. ⊎_elim
+            (λ (lower : suc k < to). other lower looped)
+            (λ (top : to ≤ suc k). let same : suc k ≡ to = omega arith in none (subst (λ (n : ℕ). ClassAt graph n p p) same looped))
+            (cases_lt (suc k) to),
+      )
 
       inside_now : (p : ℕ) (o : Option ℕ) → slice_get new_inside p ≡ Some o → IsInsideBelow graph new_heads (suc to) p o
       inside_now p o at = ⊎_elim
@@ -150,12 +155,13 @@ module _ (graph : Graph) where
             inside_counted = now.inside_counted ∙ below.inside_counted;
             smallest = inside_now;
             back_counted = now.back_counted ∙ below.back_counted;
-            backs = λ i s at. let new = now.backs i s at in let old = below.backs i s at in
-                (λ is. ⊎_elim (λ before. let was = old.0 before in (was.0, omega (arith, was.1), was.2)) (λ goes. (to, omega arith, goes)) (new.0 is),
-                λ of. new.1 (⊎_elim
-                (λ (lower : of.0 < to). inl (old.1 (of.0, lower, of.2)))
-                (λ (top : to ≤ of.0). let same : of.0 ≡ to = omega (arith, of.1) in inr (subst (λ (n : ℕ). GoesBackAt graph n s) same of.2))
-                (cases_lt of.0 to)));
+            backs = λ i s at. let new = now.backs i s at in let old = below.backs i s at in (
+              λ is. ⊎_elim (λ before. let was = old.0 before in (was.0, omega (arith, was.1), was.2)) (λ goes. (to, omega arith, goes)) (new.0 is),
+              λ of. new.1 (⊎_elim
+                  (λ (lower : of.0 < to). inl (old.1 (of.0, lower, of.2)))
+                  (λ (top : to ≤ of.0). let same : of.0 ≡ to = omega (arith, of.1) in inr (subst (λ (n : ℕ). GoesBackAt graph n s) same of.2))
+                  (cases_lt of.0 to)),
+            );
           }
 
   -- before the first level
@@ -196,12 +202,13 @@ module _ (graph : Graph) where
 
     flag_is : (i : ℕ) (s : Step) (b : Bool) → slice_get graph.steps i ≡ Some s → slice_get nest.back i ≡ Some b → ((b ≡ true) → IsBack graph s) × (IsBack graph s → b ≡ true)
     flag_is i s b at_s at_b =
-        let of = below.backs i s at_s in
-        (λ is. let goes = of.0 (at_b ∙ ap Some is) in (goes.0, goes.2.0, goes.2.1, goes.2.2),
-        λ is. ⊎_elim
-        (λ (less : is.0 < to). same_Some b true (sym at_b ∙ of.1 (is.0, less, (is.1, is.2, is.3))))
-        (λ (high : to ≤ is.0). absurd (no_head is.0 is.1 high is.3.0))
-        (cases_lt is.0 to))
+        let of = below.backs i s at_s in (
+          λ is. let goes = of.0 (at_b ∙ ap Some is) in (goes.0, goes.2.0, goes.2.1, goes.2.2),
+          λ is. ⊎_elim
+              (λ (less : is.0 < to). same_Some b true (sym at_b ∙ of.1 (is.0, less, (is.1, is.2, is.3))))
+              (λ (high : to ≤ is.0). absurd (no_head is.0 is.1 high is.3.0))
+              (cases_lt is.0 to),
+        )
 
     pub whole : IsNest graph nest
     whole =

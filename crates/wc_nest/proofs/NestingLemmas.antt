@@ -80,7 +80,7 @@ module _ (graph : Graph) (is_graph : IsGraph graph) where
   pub few_heads : (k : ℕ) (heads : List Head) (nesting_inside : List (Option ℕ)) (back : List Bool) → IsNestBelow graph k heads nesting_inside back → length heads ≤ length graph.nodes
   few_heads k heads nesting_inside back below =
       let fits : length (map (λ (x : Head). x.node) heads) ≤ length graph.nodes = distinct_fits (map (λ (x : Head). x.node) heads) (length graph.nodes) (λ i j d less within. distinct i j (get_or (map (λ (x : Head). x.node) heads) i d) (get_or (map (λ (x : Head). x.node) heads) j d) less (slice_get-get_or (map (λ (x : Head). x.node) heads) i d (omega arith)) (slice_get-get_or (map (λ (x : Head). x.node) heads) j d within))
-          (λ p among. let placed = get_from_contains (map (λ (x : Head). x.node) heads) p among in low placed.0 p placed.1) in
+      (λ p among. let placed = get_from_contains (map (λ (x : Head). x.node) heads) p among in low placed.0 p placed.1) in
       omega (arith, length-map heads (λ (x : Head). x.node))
     where
       distinct : (i j p q : ℕ) → i < j → slice_get (map (λ (x : Head). x.node) heads) i ≡ Some p → slice_get (map (λ (x : Head). x.node) heads) j ≡ Some q → p ≡ q → ⊥
@@ -175,10 +175,11 @@ module _ (graph : Graph) (is_graph : IsGraph graph) where
         single = single_from (length graph.nodes) (StepAt graph k) graph.start graph.steps level.members.items level.ways.items nesting.level_is (graphs k) new.search.marks.items (length new.search.roots.items) old.entered.items new.entered.items found.looped.items found.pairs.items nesting.flags_counted nesting.unflagged finding.are none
 
         listing_of : AreListed new.search.marks.items found.looped.items found.pairs.items (record { heads = old.listing.heads.items; inside = old.listing.inside.items; places = replicate (length new.search.roots.items) None }) level.members.items (list_nodes new.search.marks.items found.looped.items found.pairs.items (record { heads = old.listing.heads.items; inside = old.listing.inside.items; places = replicate (length new.search.roots.items) None }) level.members.items)
-        listing_of = all_listed new.search.marks.items found.looped.items found.pairs.items (record { heads = old.listing.heads.items; inside = old.listing.inside.items; places = replicate (length new.search.roots.items) None }) level.members.items (no_place (length new.search.roots.items)) nesting.level_is.rises (λ p among.
-            (omega (arith, nesting.below.inside_counted, All-contains (λ (q : ℕ). q < length graph.nodes) level.members.items p nesting.level_is.known among),
-            omega (arith, length-replicate (length new.search.roots.items) none_place, number_found p among),
-            λ is. has_first (length graph.nodes) (StepAt graph k) graph.start graph.steps level.members.items level.ways.items nesting.level_is (graphs k) new.search.marks.items (length new.search.roots.items) old.entered.items new.entered.items found.looped.items found.pairs.items nesting.flags_counted nesting.unflagged finding.are nesting.rooted p among (loop_leads (length graph.nodes) (StepAt graph k) graph.start graph.steps level.members.items level.ways.items nesting.level_is (graphs k) new.search.marks.items (length new.search.roots.items) old.entered.items new.entered.items found.looped.items found.pairs.items nesting.flags_counted nesting.unflagged finding.are p among is)))
+        listing_of = all_listed new.search.marks.items found.looped.items found.pairs.items (record { heads = old.listing.heads.items; inside = old.listing.inside.items; places = replicate (length new.search.roots.items) None }) level.members.items (no_place (length new.search.roots.items)) nesting.level_is.rises (λ p among. (
+          omega (arith, nesting.below.inside_counted, All-contains (λ (q : ℕ). q < length graph.nodes) level.members.items p nesting.level_is.known among),
+          omega (arith, length-replicate (length new.search.roots.items) none_place, number_found p among),
+          λ is. has_first (length graph.nodes) (StepAt graph k) graph.start graph.steps level.members.items level.ways.items nesting.level_is (graphs k) new.search.marks.items (length new.search.roots.items) old.entered.items new.entered.items found.looped.items found.pairs.items nesting.flags_counted nesting.unflagged finding.are nesting.rooted p among (loop_leads (length graph.nodes) (StepAt graph k) graph.start graph.steps level.members.items level.ways.items nesting.level_is (graphs k) new.search.marks.items (length new.search.roots.items) old.entered.items new.entered.items found.looped.items found.pairs.items nesting.flags_counted nesting.unflagged finding.are p among is),
+        ))
           where
             none_place : Option ℕ
             none_place = None
@@ -197,7 +198,7 @@ module _ (graph : Graph) (is_graph : IsGraph graph) where
               let listing : AreListed new.search.marks.items found.looped.items found.pairs.items (record { heads = old.listing.heads.items; inside = old.listing.inside.items; places = replicate (length new.search.roots.items) None }) level.members.items (listed added.listing) = subst (λ (l : Listed). AreListed new.search.marks.items found.looped.items found.pairs.items (record { heads = old.listing.heads.items; inside = old.listing.inside.items; places = replicate (length new.search.roots.items) None }) level.members.items l) (sym heads_added) listing_of in
               let back_is : added.back.items ≡ back_ways new.search.marks.items new.entered.items graph.start old.back.items level.ways.items = adding.back ∙ ap (λ (b : Vec Bool Global). back_ways new.search.marks.items new.entered.items graph.start b.items level.ways.items) finding.back in
               let now : IsNestAt graph k old.listing.heads.items old.listing.inside.items old.back.items added.listing.heads.items added.listing.inside.items (back_ways new.search.marks.items new.entered.items graph.start old.back.items level.ways.items) =
-                  nest_at graph k level.members.items level.ways.items nesting.level_is (graphs k) new.search.marks.items (length new.search.roots.items) old.entered.items new.entered.items found.looped.items found.pairs.items nesting.flags_counted nesting.unflagged finding.are old.listing.heads.items old.listing.inside.items (replicate (length new.search.roots.items) None) old.back.items (listed added.listing) listing single nesting.below.back_counted in
+              nest_at graph k level.members.items level.ways.items nesting.level_is (graphs k) new.search.marks.items (length new.search.roots.items) old.entered.items new.entered.items found.looped.items found.pairs.items nesting.flags_counted nesting.unflagged finding.are old.listing.heads.items old.listing.inside.items (replicate (length new.search.roots.items) None) old.back.items (listed added.listing) listing single nesting.below.back_counted in
               subst (λ (b : List Bool). IsNestBelow graph (suc k) added.listing.heads.items added.listing.inside.items b) (sym back_is) (below_more graph k old.listing.heads.items old.listing.inside.items old.back.items nesting.below added.listing.heads.items added.listing.inside.items (back_ways new.search.marks.items new.entered.items graph.start old.back.items level.ways.items) now (known_class k))
 
           -- what is left when the marks and flags are taken back
@@ -252,19 +253,21 @@ module _ (graph : Graph) (is_graph : IsGraph graph) where
                 omega (arith, ap length ways_now)
 
             pub next_nesting : 0 < length level.ways.items → IsNesting graph (suc k) cleared inner × (length inner.ways.items < length level.ways.items)
-            next_nesting some =
-                (record {
-                  level_is = level_now;
-                  below = subst (λ (b : Vec Bool Global). IsNestBelow graph (suc k) cleared.listing.heads.items cleared.listing.inside.items b.items) (sym back_is) (subst (λ (l : Listing). IsNestBelow graph (suc k) l.heads.items l.inside.items added.back.items) (sym listing_is) below_added);
-                  rooted = rooted_now;
-                  fresh = record {
-                    unmarked = λ p m at. unmarked_at p m (subst (λ (ms : List Mark). slice_get ms p ≡ Some m) marks_now at);
-                    sized = omega (arith, ap length marks_now, length-set_all new.search.marks.items level.members.items New, ap (λ (v : Vec ℕ Global). length v.items) next_is, ap (λ (s : Search). length s.next.items) adding.search, finding.classified.sized);
-                    path = ap (λ (v : Vec ℕ Global). v.items) path_is ∙ ap (λ (s : Search). s.path.items) adding.search ∙ finding.classified.path;
-                    stack = ap (λ (v : Vec ℕ Global). v.items) stack_is ∙ ap (λ (s : Search). s.stack.items) adding.search ∙ finding.classified.stack;
-                    bounds = ap (λ (v : Vec ℕ Global). v.items) bounds_is ∙ ap (λ (s : Search). s.bounds.items) adding.search ∙ finding.classified.bounds;
-                  };
-                  marks_counted = ap length marks_now ∙ length-set_all new.search.marks.items level.members.items New ∙ marks_found;
-                  unflagged = λ q at. unflagged_at q (subst (λ (bs : List Bool). slice_get bs q ≡ Some true) flags_now at);
-                  flags_counted = ap length flags_now ∙ length-set_all new.entered.items level.members.items false ∙ finding.flags_counted ∙ nesting.flags_counted;
-                }, fewer_now some)
+            next_nesting some = (
+              record {
+                level_is = level_now;
+                below = subst (λ (b : Vec Bool Global). IsNestBelow graph (suc k) cleared.listing.heads.items cleared.listing.inside.items b.items) (sym back_is) (subst (λ (l : Listing). IsNestBelow graph (suc k) l.heads.items l.inside.items added.back.items) (sym listing_is) below_added);
+                rooted = rooted_now;
+                fresh = record {
+                  unmarked = λ p m at. unmarked_at p m (subst (λ (ms : List Mark). slice_get ms p ≡ Some m) marks_now at);
+                  sized = omega (arith, ap length marks_now, length-set_all new.search.marks.items level.members.items New, ap (λ (v : Vec ℕ Global). length v.items) next_is, ap (λ (s : Search). length s.next.items) adding.search, finding.classified.sized);
+                  path = ap (λ (v : Vec ℕ Global). v.items) path_is ∙ ap (λ (s : Search). s.path.items) adding.search ∙ finding.classified.path;
+                  stack = ap (λ (v : Vec ℕ Global). v.items) stack_is ∙ ap (λ (s : Search). s.stack.items) adding.search ∙ finding.classified.stack;
+                  bounds = ap (λ (v : Vec ℕ Global). v.items) bounds_is ∙ ap (λ (s : Search). s.bounds.items) adding.search ∙ finding.classified.bounds;
+                };
+                marks_counted = ap length marks_now ∙ length-set_all new.search.marks.items level.members.items New ∙ marks_found;
+                unflagged = λ q at. unflagged_at q (subst (λ (bs : List Bool). slice_get bs q ≡ Some true) flags_now at);
+                flags_counted = ap length flags_now ∙ length-set_all new.entered.items level.members.items false ∙ finding.flags_counted ∙ nesting.flags_counted;
+              },
+              fewer_now some,
+            )

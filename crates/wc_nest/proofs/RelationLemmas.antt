@@ -49,10 +49,13 @@ module _ {P : Type 0} (R : P → Option P → Type 0) where
 
     -- a step to a node that leads back is inside of a class
     pub together_step : (p q : P) → R p (Some q) → Reaches R q p → Together start R p q
-    together_step p q step way = (led_one p q step, ⊎_elim
-        (λ (same : q ≡ p). subst (λ (x : P). LeadsOn R x p) (sym same) (subst (λ (x : P). LeadsOn R p x) same (led_one p q step)))
-        (λ (led : LeadsOn R q p). led)
-        (reach_cases q way))
+    together_step p q step way = (
+      led_one p q step,
+      ⊎_elim
+          (λ (same : q ≡ p). subst (λ (x : P). LeadsOn R x p) (sym same) (subst (λ (x : P). LeadsOn R p x) same (led_one p q step)))
+          (λ (led : LeadsOn R q p). led)
+          (reach_cases q way),
+    )
 
     -- inside of a level
     pub inner_out : (p q : P) → Inner start R p (Some q) → R p (Some q)

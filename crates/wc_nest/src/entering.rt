@@ -47,7 +47,12 @@ fn enter_one(marks: &[Mark], way: &Way, entered: &mut Vec<bool>)
 }
 
 // Per class whether it has a way inside.
-pub fn loops(alloc: Global, marks: &[Mark], ways: &[Way], count: usize) -> Result<Vec<bool>, AllocError>
+pub fn loops(
+    alloc: Global,
+    marks: &[Mark],
+    ways: &[Way],
+    count: usize,
+) -> Result<Vec<bool>, AllocError>
     requires steps { AreSteps way_ends (length marks.now) ways.now }
     requires numbers { All (λ w. class_number marks.now w.source < count) ways.now }
     ensures { IfOk result (λ v. v.items ≡ loop_ways marks.now (replicate count false) ways.now) }

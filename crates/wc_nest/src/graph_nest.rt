@@ -2,8 +2,7 @@ ghost use Rattle.std.specs.Prelude.{◌≡◌, ◌+◌, ◌<◌, ◌≤◌, ◌^
 ghost use Rattle.wc_base.specs.Troubles.{IfFault};
 ghost use Rattle.wc_model.specs.Flow.Nest.{IsNest, IsNestFault};
 ghost use Rattle.wc_model.specs.Program.Graphs.{IsGraph};
-ghost use Rattle.wc_model.specs.declared.graphs.Step.{Step as NumberedStep};
-ghost use Rattle.wc_nest.specs.Inner.Nestings.{AreWays, AreNumbers, IsLevelAt, IsNesting, IsWhole};
+ghost use Rattle.wc_nest.specs.Inner.Nestings.{AddsWay, AreNumbers, AreSorted, AreWays, IsFirstNesting, IsLevelAt, IsWhole};
 
 use crate::levels::{Level, Nesting, Next};
 use crate::listing::Listing;
@@ -31,9 +30,7 @@ pub fn nest(alloc: Global, graph: &Graph) -> Result<Nest, Trouble>
         Ok(Whole::Nested(nest)) => Ok(nest),
         Ok(Whole::Second(node)) => {
             let nodes = graph.nodes.items();
-            Err(Trouble::Fault(Fault::Irreducible(
-                nodes[node as usize].pc,
-            )))
+            Err(Trouble::Fault(Fault::Irreducible(nodes[node as usize].pc)))
         }
         Err(error) => Err(Trouble::Memory(error)),
     }
@@ -73,7 +70,7 @@ fn first_level(alloc: Global, graph: &Graph) -> Result<Level, AllocError>
 
 fn first_nesting(alloc: Global, graph: &Graph) -> Result<Nesting, AllocError>
     requires { IsGraph graph.now }
-    ensures { IfOk result (λ nesting. (level : _) → IsLevelAt graph.now 0 level → IsNesting graph.now 0 nesting level) }
+    ensures { IfOk result (IsFirstNesting graph.now) }
 {
     let nodes = graph.nodes.items().len();
     let steps = graph.steps.items().len();
@@ -108,7 +105,7 @@ fn numbers(alloc: Global, count: u32) -> Result<Vec<u32>, AllocError>
 
 // The steps between nodes.
 fn ways_of(alloc: Global, steps: &[Step]) -> Result<Vec<Way>, AllocError>
-    requires { (i j : ℕ) (s t : NumberedStep) → i < j → slice_get steps.now i ≡ Some s → slice_get steps.now j ≡ Some t → s.source ≤ t.source }
+    requires { AreSorted steps.now }
     ensures { IfOk result (λ v. AreWays steps.now (length steps.now) v.items) }
 {
     let mut ways = Vec::with_capacity(alloc, steps.len())?;
@@ -120,8 +117,8 @@ fn ways_of(alloc: Global, steps: &[Step]) -> Result<Vec<Way>, AllocError>
 
 fn add_way(ways: &mut Vec<Way>, steps: &[Step], index: usize) -> Result<(), AllocError>
     requires inside { index < length steps.now }
-    requires sorted { (i j : ℕ) (s t : NumberedStep) → i < j → slice_get steps.now i ≡ Some s → slice_get steps.now j ≡ Some t → s.source ≤ t.source }
-    ensures { IfOk result (λ _. AreWays steps.now index ways.old.items → AreWays steps.now (index + 1) ways.new.items) }
+    requires sorted { AreSorted steps.now }
+    ensures { IfOk result (λ _. AddsWay steps.now index ways.old.items ways.new.items) }
 {
     let step = steps[index];
     if let Some(target) = step.target {

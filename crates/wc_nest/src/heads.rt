@@ -1,5 +1,5 @@
-ghost use Rattle.std.specs.Prelude.{◌≡◌, ◌<◌, All, length, replicate, IfOk};
-ghost use Rattle.wc_nest.specs.Inner.Levels.{class_number, is_entered, no_heads, with_node, note_node, note_nodes, second_of};
+ghost use Rattle.std.specs.Prelude.{◌≡◌, ◌<◌, All, length, IfOk};
+ghost use Rattle.wc_nest.specs.Inner.Levels.{class_number, first_heads, is_entered, with_node, note_node, second_of};
 
 use crate::entering::is_entry;
 use crate::marking::{Mark, class_of, new_list};
@@ -24,7 +24,7 @@ pub fn heads_of(
     requires known { All (λ p. p < length marks.now) members.now }
     requires flags { length entered.now ≡ length marks.now }
     requires numbers { All (λ p. class_number marks.now p < count) members.now }
-    ensures { IfOk result (λ v. v.items ≡ note_nodes marks.now entered.now start (replicate count no_heads) members.now) }
+    ensures { IfOk result (λ v. v.items ≡ first_heads marks.now entered.now start count members.now) }
 {
     let none = Pair {
         first: None,

@@ -2,9 +2,7 @@ ghost use Rattle.std.specs.Prelude.{◌≡◌, ◌+◌, ◌<◌, ◌^◌, ℕ, A
 ghost use Rattle.wc_model.specs.Flow.Walks.{AreSteps};
 ghost use Rattle.wc_model.specs.Program.Graphs.{IsGraph};
 ghost use Rattle.wc_nest.specs.Inner.Classes.{IsFresh, AreEnds};
-ghost use Rattle.wc_nest.specs.Inner.Levels.{class_number};
-ghost use Rattle.wc_nest.specs.Inner.Marking.{set_all};
-ghost use Rattle.wc_nest.specs.Inner.Nestings.{IsNesting, IsNext, IsFinding, IsAdding, IsInnerOf};
+ghost use Rattle.wc_nest.specs.Inner.Nestings.{AreNumbered, cleared, IsAdding, IsFinding, IsInnerOf, IsNesting, IsStepped};
 ghost use Rattle.wc_nest.specs.declared.marking.Mark.TheVariants.{New};
 ghost use Rattle.wc_nest.specs.Inner.Ways.{way_ends};
 
@@ -54,7 +52,7 @@ impl Nesting {
         requires graph { IsGraph graph.now }
         requires some { 0 < length level.now.ways.items }
         requires nesting { (k : ℕ) × IsNesting graph.now k self.old level.now }
-        ensures { IfOk result (λ next. (k : ℕ) → IsNesting graph.now k self.old level.now → IsNext graph.now k level.now next self.new) }
+        ensures { IfOk result (IsStepped graph.now level.now self.old self.new) }
     {
         let found = self.find(alloc, graph.start, level)?;
         if let Some(second) = second_head(&self.search.marks, &level.members, &found.pairs) {
@@ -89,10 +87,16 @@ impl Nesting {
         Ok(Found { looped, pairs })
     }
 
-    fn add(&mut self, alloc: Global, start: u32, level: &Level, found: &Found) -> Result<(), AllocError>
+    fn add(
+        &mut self,
+        alloc: Global,
+        start: u32,
+        level: &Level,
+        found: &Found,
+    ) -> Result<(), AllocError>
         requires steps { AreSteps way_ends (length self.old.search.marks.items) level.now.ways.items }
         requires known { All (λ p. p < length self.old.search.marks.items) level.now.members.items }
-        requires numbers { All (λ p. class_number self.old.search.marks.items p < length self.old.search.roots.items) level.now.members.items }
+        requires numbers { AreNumbered self.old.search level.now (length self.old.search.roots.items) }
         requires flags { length self.old.entered.items ≡ length self.old.search.marks.items }
         requires nodes { length self.old.listing.inside.items ≡ length self.old.search.marks.items }
         requires looped { length found.now.looped.items ≡ length self.old.search.roots.items }
@@ -118,11 +122,17 @@ impl Nesting {
         Ok(())
     }
 
-    fn inner(&self, alloc: Global, start: u32, level: &Level, found: &Found) -> Result<Level, AllocError>
+    fn inner(
+        &self,
+        alloc: Global,
+        start: u32,
+        level: &Level,
+        found: &Found,
+    ) -> Result<Level, AllocError>
         requires steps { AreSteps way_ends (length self.now.search.marks.items) level.now.ways.items }
         requires known { All (λ p. p < length self.now.search.marks.items) level.now.members.items }
         requires flags { length self.now.entered.items ≡ length self.now.search.marks.items }
-        requires numbers { All (λ p. class_number self.now.search.marks.items p < length found.now.looped.items) level.now.members.items }
+        requires numbers { AreNumbered self.now.search level.now (length found.now.looped.items) }
         ensures { IfOk result (IsInnerOf start level.now found.now self.now) }
     {
         let marks = &self.search.marks;
@@ -135,8 +145,8 @@ impl Nesting {
     fn clear(&mut self, level: &Level)
         requires known { All (λ p. p < length self.old.search.marks.items) level.now.members.items }
         requires flags { length self.old.entered.items ≡ length self.old.search.marks.items }
-        ensures marks { self.new.search.marks.items ≡ set_all self.old.search.marks.items level.now.members.items New }
-        ensures entered { self.new.entered.items ≡ set_all self.old.entered.items level.now.members.items false }
+        ensures marks { self.new.search.marks.items ≡ cleared level.now self.old.search.marks.items New }
+        ensures entered { self.new.entered.items ≡ cleared level.now self.old.entered.items false }
         ensures next { self.new.search.next ≡ self.old.search.next }
         ensures stack { self.new.search.stack ≡ self.old.search.stack }
         ensures bounds { self.new.search.bounds ≡ self.old.search.bounds }

@@ -11,7 +11,6 @@ mod inner;
 mod levels;
 mod listing;
 mod marking;
-
 mod search;
 mod ways;
 

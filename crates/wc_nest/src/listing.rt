@@ -1,5 +1,5 @@
-ghost use Rattle.std.specs.Prelude.{◌≡◌, ◌+◌, ◌<◌, ◌≤◌, ◌^◌, All, length, IfOk, slice_index_or, None};
-ghost use Rattle.wc_nest.specs.Inner.Levels.{class_number, no_heads, listed, with_head, list_class, list_node, list_nodes};
+ghost use Rattle.std.specs.Prelude.{◌≡◌, ◌+◌, ◌<◌, ◌≤◌, ◌^◌, All, length, IfOk};
+ghost use Rattle.wc_nest.specs.Inner.Levels.{add_head, class_number, list_class, listed, Lists, ListsAll};
 
 use crate::heads::Pair;
 use crate::marking::{Mark, class_of};
@@ -30,7 +30,7 @@ impl Listing {
         requires loops { length looped.now ≡ length self.old.places.items }
         requires pairs { length pairs.now ≡ length self.old.places.items }
         requires room { length self.old.heads.items + length members.now < 2 ^ 32 }
-        ensures { IfOk result (λ _. listed self.new ≡ list_nodes marks.now looped.now pairs.now (listed self.old) members.now) }
+        ensures { IfOk result (λ _. ListsAll marks.now looped.now pairs.now self.old self.new members.now) }
     {
         for node in members {
             self.list_one(marks, looped, pairs, *node)?;
@@ -38,7 +38,13 @@ impl Listing {
         Ok(())
     }
 
-    fn list_one(&mut self, marks: &[Mark], looped: &[bool], pairs: &[Pair], node: u32) -> Result<(), AllocError>
+    fn list_one(
+        &mut self,
+        marks: &[Mark],
+        looped: &[bool],
+        pairs: &[Pair],
+        node: u32,
+    ) -> Result<(), AllocError>
         requires known { node < length marks.now }
         requires nodes { length self.old.inside.items ≡ length marks.now }
         requires number { class_number marks.now node < length self.old.places.items }
@@ -48,7 +54,7 @@ impl Listing {
         ensures inside { length self.new.inside.items ≡ length self.old.inside.items }
         ensures places { length self.new.places.items ≡ length self.old.places.items }
         ensures heads { length self.new.heads.items ≤ length self.old.heads.items + 1 }
-        ensures listed { IfOk result (λ _. listed self.new ≡ list_node marks.now looped.now pairs.now (listed self.old) node) }
+        ensures listed { IfOk result (λ _. Lists marks.now looped.now pairs.now self.old self.new node) }
     {
         let class = class_of(marks, node);
         if looped[class] {
@@ -78,7 +84,7 @@ impl Listing {
         ensures inside { length self.new.inside.items ≡ length self.old.inside.items }
         ensures places { length self.new.places.items ≡ length self.old.places.items }
         ensures heads { length self.new.heads.items ≤ length self.old.heads.items + 1 }
-        ensures listed { IfOk result (λ _. listed self.new ≡ with_head (listed self.old) class node first (slice_index_or self.old.places.items class None)) }
+        ensures listed { IfOk result (λ _. listed self.new ≡ add_head (listed self.old) class node first) }
     {
         match (first, self.places[class]) {
             (Some(head), None) => {

@@ -1,7 +1,6 @@
 ghost use Rattle.std.specs.Prelude.{◌≡◌, ◌+◌, ◌-◌, ◌<◌, ◌≤◌, ◌^◌, ◌++◌, ◌∷◌, [], All, IfOk, Some, slice_get, slice_index, slice_set, length, drop, take, IsSome, Contains};
 ghost use Rattle.wc_model.specs.Flow.Walks.{AreSteps};
-ghost use Rattle.wc_nest.specs.Inner.Marking.{set_all};
-ghost use Rattle.wc_nest.specs.Inner.Searches.{IsSearch, IsNextWay, IsBound, IsBoundAfter, IsRound};
+ghost use Rattle.wc_nest.specs.Inner.Searches.{IsSearch, IsNextWay, IsBound, IsBoundAfter, IsRound, marks_closed, marks_entered, next_followed, with_top};
 ghost use Rattle.wc_nest.specs.Inner.Ways.{way_ends};
 
 use crate::marking::{Mark, set_all};
@@ -25,11 +24,11 @@ impl Search {
     // The search goes on to a new node.
     pub fn enter(&mut self, node: u32) -> Result<(), AllocError>
         requires { node < length self.old.marks.items }
-        ensures marks { self.new.marks.items ≡ slice_set self.old.marks.items node (Mark.Open (length self.old.stack.items)) }
+        ensures marks { self.new.marks.items ≡ marks_entered self.old node }
         ensures next { self.new.next.items ≡ self.old.next.items }
         ensures stack { IfOk result (λ _. self.new.stack.items ≡ self.old.stack.items ++ node ∷ []) }
-        ensures path { IfOk result (λ _. self.new.path.items ≡ self.old.path.items ++ length self.old.stack.items ∷ []) }
-        ensures bounds { IfOk result (λ _. self.new.bounds.items ≡ self.old.bounds.items ++ length self.old.stack.items ∷ []) }
+        ensures path { IfOk result (λ _. self.new.path.items ≡ with_top self.old self.old.path.items) }
+        ensures bounds { IfOk result (λ _. self.new.bounds.items ≡ with_top self.old self.old.bounds.items) }
         ensures roots { self.new.roots.items ≡ self.old.roots.items }
     {
         let place = self.stack.len();
@@ -45,7 +44,7 @@ impl Search {
         requires known { node < length self.old.next.items }
         requires fits { slice_index self.old.next.items node + 1 < 2 ^ 64 }
         ensures marks { self.new.marks.items ≡ self.old.marks.items }
-        ensures next { self.new.next.items ≡ slice_set self.old.next.items node (slice_index self.old.next.items node + 1) }
+        ensures next { self.new.next.items ≡ next_followed self.old node }
         ensures stack { self.new.stack.items ≡ self.old.stack.items }
         ensures path { self.new.path.items ≡ self.old.path.items }
         ensures bounds { self.new.bounds.items ≡ self.old.bounds.items }
@@ -86,7 +85,7 @@ impl Search {
         requires open { place ≤ length self.old.stack.items }
         requires path { slice_get self.old.path.items (length self.old.path.items - 1) ≡ Some place }
         requires bounds { slice_get self.old.bounds.items (length self.old.bounds.items - 1) ≡ Some place }
-        ensures marks { self.new.marks.items ≡ set_all self.old.marks.items (drop place self.old.stack.items) (Mark.Done (length self.old.roots.items)) }
+        ensures marks { self.new.marks.items ≡ marks_closed self.old place }
         ensures next { self.new.next.items ≡ self.old.next.items }
         ensures stack { self.new.stack.items ≡ take place self.old.stack.items }
         ensures path { self.old.path.items ≡ self.new.path.items ++ place ∷ [] }

@@ -1,6 +1,6 @@
-ghost use Rattle.std.specs.Prelude.{◌≡◌, ◌+◌, ◌<◌, ◌≤◌, ℕ, All, IfOk, IfSome, IsTrue, IsFalse, Some, slice_get, true, length};
+ghost use Rattle.std.specs.Prelude.{◌≡◌, ◌+◌, ◌<◌, ◌≤◌, ℕ, All, IfOk, IfSome, IsTrue, IsFalse, None, Some, false, length, replicate, slice_index_or, slice_set, true, if◌then◌else◌};
 ghost use Rattle.wc_model.specs.Program.Graphs.{IsGraph};
-ghost use Rattle.wc_nest.specs.Inner.Checks.{AreJoined, AreEnding, AreOrdered, ArePlaced, AreAll, IsEnding};
+ghost use Rattle.wc_nest.specs.Inner.Checks.{AreJoined, StayJoined, AreEnding, AreOrdered, IsAfter, IsEnding, IsKnown};
 
 use crate::marking::new_list;
 use crate::nest;
@@ -13,137 +13,192 @@ use wc_model::{Class, Context, Control, Graph, Insn, Nest, Node, Step, Table};
 fn is_graph(alloc: Global, graph: &Graph) -> Result<bool, AllocError>
     ensures { IfOk result (λ yes. yes ≡ true → IsGraph graph.now) }
 {
-    let nodes = graph.nodes.items().len();
+    let nodes = graph.nodes.items();
     let steps = graph.steps.items();
-    if nodes > 100000 || steps.len() > 100000 || graph.start as usize >= nodes {
+    if nodes.len() > 100000 || steps.len() > 100000 || nodes.len() <= graph.start as usize {
         return Ok(false);
     }
-    if !are_ordered(nodes, steps) || !are_placed(graph) {
+    if !are_placed(graph.contexts.items(), nodes) {
         return Ok(false);
     }
-    let joined = joined_from(alloc, nodes, steps, graph.start)?;
-    let ending = ending_nodes(alloc, nodes, steps)?;
-    Ok(all_true(&joined) && all_true(&ending))
+    if !are_roots(graph.contexts.items()) {
+        return Ok(false);
+    }
+    if !are_ordered(nodes.len(), steps) {
+        return Ok(false);
+    }
+    let joined = joined_from(alloc, nodes.len(), steps, graph.start)?;
+    if !all_true(&joined) {
+        return Ok(false);
+    }
+    let ending = ending_nodes(alloc, nodes.len(), steps)?;
+    Ok(all_true(&ending))
 }
 
-// All nodes are of the one context that there is.
-fn are_placed(graph: &Graph) -> bool
-    ensures { IsTrue result → ArePlaced graph.now }
+fn are_placed(contexts: &[Context], nodes: &[Node]) -> bool
+    ensures { IsTrue result → All (λ n. n.context < length contexts.now) nodes.now }
 {
-    let contexts = graph.contexts.items();
-    contexts.len() == 1
-        && contexts[0].parent.is_none()
-        && graph.nodes.items().iter().all(|node: &Node| -> bool
-            ensures { IsTrue result → node.now.context ≡ 0 }
-        { node.context == 0 })
-}
-
-fn are_ordered(nodes: usize, steps: &[Step]) -> bool
-    ensures { IsTrue result → AreOrdered nodes steps.now }
-{
-    let mut last = 0;
-    for step in steps {
-        if step.source < last || nodes <= step.source as usize || leaves(nodes, step.target) {
+    for node in nodes {
+        if contexts.len() <= node.context as usize {
             return false;
         }
-        last = step.source;
     }
     true
 }
 
-fn leaves(nodes: usize, target: Option<u32>) -> bool
-    ensures { IsFalse result → IfSome target (λ q. q < nodes) }
+fn are_roots(contexts: &[Context]) -> bool
+    ensures { IsTrue result → All (λ c. c.parent ≡ None) contexts.now }
 {
-    match target {
-        None => false,
-        Some(node) => nodes <= node as usize,
+    for context in contexts {
+        if context.parent.is_some() {
+            return false;
+        }
+    }
+    true
+}
+
+fn are_ordered(nodes: usize, steps: &[Step]) -> bool
+    ensures { IsTrue result → AreOrdered nodes steps.now (length steps.now) }
+{
+    for index in 0..steps.len() {
+        if !is_known(nodes, steps[index]) {
+            return false;
+        }
+        if !is_after(steps, index) {
+            return false;
+        }
+    }
+    true
+}
+
+fn is_known(nodes: usize, step: Step) -> bool
+    ensures { IsTrue result → IsKnown nodes step }
+{
+    if nodes <= step.source as usize {
+        return false;
+    }
+    match step.target {
+        None => true,
+        Some(node) => (node as usize) < nodes,
     }
 }
 
+// Whether a step leaves no node before that of the step before.
+fn is_after(steps: &[Step], index: usize) -> bool
+    requires { index < length steps.now }
+    ensures { IsTrue result → IsAfter steps.now index }
+{
+    if index == 0 {
+        return true;
+    }
+    steps[index - 1].source <= steps[index].source
+}
+
 // Per node whether steps join it to the start.
-fn joined_from(alloc: Global, nodes: usize, steps: &[Step], start: u32) -> Result<Vec<bool>, AllocError>
-    requires steps { AreOrdered nodes steps.now }
+fn joined_from(
+    alloc: Global,
+    nodes: usize,
+    steps: &[Step],
+    start: u32,
+) -> Result<Vec<bool>, AllocError>
+    requires steps { AreOrdered nodes steps.now (length steps.now) }
     requires start { start < nodes }
     ensures { IfOk result (λ v. (length v.items ≡ nodes) × AreJoined steps.now start v.items) }
 {
     let mut joined = new_list(alloc, nodes, false)?;
-    joined[start as usize] = true;
+    set(&mut joined, start);
     for _round in 0..nodes {
-        spread(steps, &mut joined);
+        spread(nodes, steps, &mut joined);
     }
     Ok(joined)
 }
 
-fn spread(steps: &[Step], joined: &mut Vec<bool>)
-    requires { AreOrdered (length joined.old.items) steps.now }
-    ensures count { length joined.new.items ≡ length joined.old.items }
-    ensures joined { (start : ℕ) → AreJoined steps.now start joined.old.items → AreJoined steps.now start joined.new.items }
+fn set(flags: &mut Vec<bool>, node: u32)
+    requires { node < length flags.old.items }
+    ensures { flags.new.items ≡ slice_set flags.old.items node true }
+{
+    flags[node as usize] = true;
+}
+
+fn spread(nodes: usize, steps: &[Step], joined: &mut Vec<bool>)
+    requires steps { AreOrdered nodes steps.now (length steps.now) }
+    requires count { length joined.old.items ≡ nodes }
+    ensures count { length joined.new.items ≡ nodes }
+    ensures joined { StayJoined steps.now joined.old.items joined.new.items }
 {
     for index in 0..steps.len() {
-        join_one(steps, index, joined);
+        join_one(nodes, steps, index, joined);
     }
 }
 
-fn join_one(steps: &[Step], index: usize, joined: &mut Vec<bool>)
-    requires steps { AreOrdered (length joined.old.items) steps.now }
+fn join_one(nodes: usize, steps: &[Step], index: usize, joined: &mut Vec<bool>)
+    requires steps { AreOrdered nodes steps.now (length steps.now) }
     requires inside { index < length steps.now }
-    ensures count { length joined.new.items ≡ length joined.old.items }
-    ensures joined { (start : ℕ) → AreJoined steps.now start joined.old.items → AreJoined steps.now start joined.new.items }
+    requires count { length joined.old.items ≡ nodes }
+    ensures count { length joined.new.items ≡ nodes }
+    ensures joined { StayJoined steps.now joined.old.items joined.new.items }
 {
     let step = steps[index];
     if let Some(target) = step.target {
-        if joined[step.source as usize] {
-            joined[target as usize] = true;
+        if is_set(joined, step.source) {
+            set(joined, target);
         }
     }
 }
 
+fn is_set(flags: &[bool], node: u32) -> bool
+    ensures { result ≡ slice_index_or flags.now node false }
+{
+    flags.get(node as usize).copied().unwrap_or(false)
+}
+
 // Per node whether a walk leads from it to the exit.
 fn ending_nodes(alloc: Global, nodes: usize, steps: &[Step]) -> Result<Vec<bool>, AllocError>
-    requires { AreOrdered nodes steps.now }
+    requires { AreOrdered nodes steps.now (length steps.now) }
     ensures { IfOk result (λ v. (length v.items ≡ nodes) × AreEnding steps.now v.items) }
 {
     let mut ending = new_list(alloc, nodes, false)?;
     for _round in 0..nodes {
-        gather(steps, &mut ending);
+        gather(nodes, steps, &mut ending);
     }
     Ok(ending)
 }
 
-fn gather(steps: &[Step], ending: &mut Vec<bool>)
-    requires { AreOrdered (length ending.old.items) steps.now }
-    ensures count { length ending.new.items ≡ length ending.old.items }
+fn gather(nodes: usize, steps: &[Step], ending: &mut Vec<bool>)
+    requires steps { AreOrdered nodes steps.now (length steps.now) }
+    requires count { length ending.old.items ≡ nodes }
+    ensures count { length ending.new.items ≡ nodes }
     ensures ending { AreEnding steps.now ending.old.items → AreEnding steps.now ending.new.items }
 {
     for index in 0..steps.len() {
-        end_one(steps, index, ending);
+        end_one(nodes, steps, index, ending);
     }
 }
 
-fn end_one(steps: &[Step], index: usize, ending: &mut Vec<bool>)
-    requires steps { AreOrdered (length ending.old.items) steps.now }
+fn end_one(nodes: usize, steps: &[Step], index: usize, ending: &mut Vec<bool>)
+    requires steps { AreOrdered nodes steps.now (length steps.now) }
     requires inside { index < length steps.now }
-    ensures count { length ending.new.items ≡ length ending.old.items }
+    requires count { length ending.old.items ≡ nodes }
+    ensures count { length ending.new.items ≡ nodes }
     ensures ending { AreEnding steps.now ending.old.items → AreEnding steps.now ending.new.items }
 {
     let step = steps[index];
     if is_ending(step.target, ending) {
-        ending[step.source as usize] = true;
+        set(ending, step.source);
     }
 }
 
 fn is_ending(target: Option<u32>, ending: &[bool]) -> bool
-    requires { IfSome target (λ q. q < length ending.now) }
     ensures { IsTrue result → IsEnding ending.now target }
 {
     match target {
         None => true,
-        Some(node) => ending[node as usize],
+        Some(node) => is_set(ending, node),
     }
 }
 
 fn all_true(flags: &[bool]) -> bool
-    ensures { IsTrue result → AreAll flags.now }
+    ensures { IsTrue result → All (λ b. b ≡ true) flags.now }
 {
     for flag in flags {
         if !*flag {
@@ -214,13 +269,21 @@ fn is_nest(
             for head in nest.heads.items() {
                 found.push((head.node, head.parent))?;
             }
-            Ok(found.as_slice() == heads && nest.inside.items() == inside && nest.back.items() == back)
+            Ok(
+                found.as_slice() == heads
+                    && nest.inside.items() == inside
+                    && nest.back.items() == back,
+            )
         }
         _ => Ok(false),
     }
 }
 
-fn fault(alloc: Global, count: u32, steps: &[(u32, Option<u32>)]) -> Result<Option<Fault>, AllocError> {
+fn fault(
+    alloc: Global,
+    count: u32,
+    steps: &[(u32, Option<u32>)],
+) -> Result<Option<Fault>, AllocError> {
     match nest_of(alloc, count, 0, steps)? {
         Some(Err(Trouble::Fault(fault))) => Ok(Some(fault)),
         _ => Ok(None),
@@ -236,20 +299,87 @@ fn loops(rt: HostRuntime) -> Result<(), AllocError> {
     let line = [(0, Some(1)), (1, OUT)];
     assert!(rt; is_nest(alloc, 2, &line, &[], &[None, None], &[false, false])?);
     // a loop that counts down
-    let countdown = [(0, Some(1)), (1, Some(2)), (2, Some(1)), (2, Some(3)), (3, OUT)];
-    assert!(rt; is_nest(alloc, 4, &countdown, &[(1, None)], &[None, Some(0), Some(0), None], &[false, false, true, false, false])?);
+    let countdown = [
+        (0, Some(1)),
+        (1, Some(2)),
+        (2, Some(1)),
+        (2, Some(3)),
+        (3, OUT),
+    ];
+    assert!(rt;
+        is_nest(
+            alloc,
+            4,
+            &countdown,
+            &[(1, None)],
+            &[None, Some(0), Some(0), None],
+            &[false, false, true, false, false]
+        )?
+    );
     // the start leads to itself
     let itself = [(0, Some(0)), (0, OUT)];
     assert!(rt; is_nest(alloc, 1, &itself, &[(0, None)], &[Some(0)], &[true, false])?);
     // two ways back to one head
-    let twice = [(0, Some(1)), (1, Some(2)), (1, Some(3)), (2, Some(1)), (3, Some(1)), (3, OUT)];
-    assert!(rt; is_nest(alloc, 4, &twice, &[(1, None)], &[None, Some(0), Some(0), Some(0)], &[false, false, false, true, true, false])?);
+    let twice = [
+        (0, Some(1)),
+        (1, Some(2)),
+        (1, Some(3)),
+        (2, Some(1)),
+        (3, Some(1)),
+        (3, OUT),
+    ];
+    assert!(rt;
+        is_nest(
+            alloc,
+            4,
+            &twice,
+            &[(1, None)],
+            &[None, Some(0), Some(0), Some(0)],
+            &[false, false, false, true, true, false]
+        )?
+    );
     // three steps to one head
-    let entries = [(0, Some(1)), (0, Some(2)), (0, Some(3)), (1, Some(3)), (2, Some(3)), (3, Some(4)), (4, Some(3)), (4, OUT)];
-    assert!(rt; is_nest(alloc, 5, &entries, &[(3, None)], &[None, None, None, Some(0), Some(0)], &[false, false, false, false, false, false, true, false])?);
+    let entries = [
+        (0, Some(1)),
+        (0, Some(2)),
+        (0, Some(3)),
+        (1, Some(3)),
+        (2, Some(3)),
+        (3, Some(4)),
+        (4, Some(3)),
+        (4, OUT),
+    ];
+    assert!(rt;
+        is_nest(
+            alloc,
+            5,
+            &entries,
+            &[(3, None)],
+            &[None, None, None, Some(0), Some(0)],
+            &[false, false, false, false, false, false, true, false]
+        )?
+    );
     // the loop with the least member first, though its head is greater
-    let beside = [(0, Some(2)), (0, Some(4)), (1, Some(4)), (2, Some(3)), (3, Some(2)), (3, OUT), (4, Some(1)), (4, OUT)];
-    assert!(rt; is_nest(alloc, 5, &beside, &[(4, None), (2, None)], &[None, Some(0), Some(1), Some(1), Some(0)], &[false, false, true, false, true, false, false, false])?);
+    let beside = [
+        (0, Some(2)),
+        (0, Some(4)),
+        (1, Some(4)),
+        (2, Some(3)),
+        (3, Some(2)),
+        (3, OUT),
+        (4, Some(1)),
+        (4, OUT),
+    ];
+    assert!(rt;
+        is_nest(
+            alloc,
+            5,
+            &beside,
+            &[(4, None), (2, None)],
+            &[None, Some(0), Some(1), Some(1), Some(0)],
+            &[false, false, true, false, true, false, false, false]
+        )?
+    );
     Ok(())
 }
 
@@ -272,7 +402,16 @@ fn loops_in_loops(rt: HostRuntime) -> Result<(), AllocError> {
         (7, OUT),
     ];
     let heads = [(1, None), (2, Some(0)), (3, Some(1))];
-    let inside = [None, Some(0), Some(1), Some(2), Some(2), Some(1), Some(0), None];
+    let inside = [
+        None,
+        Some(0),
+        Some(1),
+        Some(2),
+        Some(2),
+        Some(1),
+        Some(0),
+        None,
+    ];
     let back = [
         false, false, false, false, true, false, false, true, false, true, false, false,
     ];
@@ -284,13 +423,42 @@ fn loops_in_loops(rt: HostRuntime) -> Result<(), AllocError> {
 fn second_heads(rt: HostRuntime) -> Result<(), AllocError> {
     let alloc = rt.alloc();
     // a jump into a loop
-    let into = [(0, Some(1)), (1, Some(3)), (1, Some(2)), (2, Some(3)), (3, Some(4)), (4, Some(2)), (4, Some(5)), (5, OUT)];
+    let into = [
+        (0, Some(1)),
+        (1, Some(3)),
+        (1, Some(2)),
+        (2, Some(3)),
+        (3, Some(4)),
+        (4, Some(2)),
+        (4, Some(5)),
+        (5, OUT),
+    ];
     assert!(rt; fault(alloc, 6, &into)? == Some(Fault::Irreducible(0x800c)));
     // inside of a loop that is entered at its head
-    let inner = [(0, Some(1)), (1, Some(2)), (1, Some(3)), (2, Some(3)), (3, Some(2)), (3, Some(4)), (4, Some(1)), (4, OUT)];
+    let inner = [
+        (0, Some(1)),
+        (1, Some(2)),
+        (1, Some(3)),
+        (2, Some(3)),
+        (3, Some(2)),
+        (3, Some(4)),
+        (4, Some(1)),
+        (4, OUT),
+    ];
     assert!(rt; fault(alloc, 5, &inner)? == Some(Fault::Irreducible(0x800c)));
     // of two such loops that with the least member, though its second head is greater
-    let two = [(0, Some(1)), (0, Some(2)), (0, Some(3)), (0, Some(4)), (1, Some(4)), (2, Some(3)), (3, Some(2)), (3, OUT), (4, Some(1)), (4, OUT)];
+    let two = [
+        (0, Some(1)),
+        (0, Some(2)),
+        (0, Some(3)),
+        (0, Some(4)),
+        (1, Some(4)),
+        (2, Some(3)),
+        (3, Some(2)),
+        (3, OUT),
+        (4, Some(1)),
+        (4, OUT),
+    ];
     assert!(rt; fault(alloc, 5, &two)? == Some(Fault::Irreducible(0x8010)));
     Ok(())
 }

@@ -1,6 +1,6 @@
 -- The loop facts by their address: the last one of each, and for each one the one before.
-use Rattle.std.specs.Prelude.{ℕ, ◌≡◌, ◌<◌, ◌≤◌, ◌⊎◌, List, Option, None, Some, slice_get, length}
-use Rattle.std.specs.BTreeMap.{get}
+use Rattle.std.specs.Prelude.{ℕ, suc, ◌+◌, ◌++◌, [], ◌∷◌, ◌≡◌, ◌<◌, ◌≤◌, ◌⊎◌, List, Option, None, Some, slice_get, length}
+use Rattle.std.specs.BTreeMap.{Updates, get}
 use Rattle.std.specs.Ordering.{nat_cmp}
 use Rattle.wc_model.specs.declared.flow_facts.Fact.{Fact}
 use Rattle.wc_model.specs.declared.flow_facts.Fact.TheVariants.{Loop}
@@ -13,6 +13,11 @@ use Rattle.wc_bounds.specs.Inner.Best.{offered}
 abbrev pub loop_at : Fact → Option ℕ
 loop_at (Loop at (Some _) _) = Some at
 loop_at _ = None
+
+-- the places up to one
+abbrev pub places_before : Option ℕ → ℕ
+places_before None = 0
+places_before (Some j) = suc j
 
 module _ (facts : List (ℕ × Fact)) where
   abbrev pub IsLoopAt : ℕ → ℕ → Type 0
@@ -34,3 +39,12 @@ module _ (facts : List (ℕ × Fact)) where
   IsBestFrom p k (Some b) =
       ((i : ℕ) × (f : ℕ × Fact) × (slice_get facts i ≡ Some f) × (offered p f.1 ≡ Some b))
       × ((i : ℕ) (f : ℕ × Fact) (c : Best) → k ≤ i → slice_get facts i ≡ Some f → offered p f.1 ≡ Some c → (c.depth < b.depth) ⊎ ((c.depth ≡ b.depth) × (b.bound ≤ c.bound)))
+
+  -- one more fact is stated
+  abbrev pub IsAdded : ℕ → Stated → Stated → Type 0
+  IsAdded k old new = IsStated k old → IsStated (k + 1) new
+
+-- the fact at a place is the last one of its address
+pub record IsPut (at index : ℕ) (old new : Stated) : Type 0 where
+  pub last : Updates nat_cmp old.last new.last at (Some index)
+  pub before : new.before.items ≡ old.before.items ++ get nat_cmp old.last at ∷ []

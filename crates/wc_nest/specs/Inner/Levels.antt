@@ -1,5 +1,5 @@
 -- What is done at a level once its classes are known, as recursions over its ways and members.
-use Rattle.std.specs.Prelude.{ℕ, ◌≡◌, ◌<◌, ◌≤◌, ◌==◌, ◌&&◌, ◌||◌, not, Bool, true, false, if◌then◌else◌, List, [], ◌∷◌, ◌++◌, Option, None, Some, All, AllPairs, Contains, slice_get, slice_index_or, slice_set, length}
+use Rattle.std.specs.Prelude.{ℕ, replicate, ◌≡◌, ◌<◌, ◌≤◌, ◌==◌, ◌&&◌, ◌||◌, not, Bool, true, false, if◌then◌else◌, List, [], ◌∷◌, ◌++◌, Option, None, Some, All, AllPairs, Contains, slice_get, slice_index_or, slice_set, length}
 use Rattle.wc_model.specs.declared.graphs.Head.{Head}
 use Rattle.wc_model.specs.declared.graphs.Step.{Step}
 use Rattle.wc_model.specs.Flow.Walks.{AreSteps}
@@ -144,3 +144,17 @@ back_ways marks entered start = flag_all (is_back marks entered start) (λ w. w.
 
 abbrev pub is_inner : List Mark → List Bool → ℕ → Way → Bool
 is_inner marks entered start w = stays marks w && not (is_entered entered start w.target)
+
+-- a head at a class's place, and what a listing is with a member, and with all
+abbrev pub add_head : Listed → ℕ → ℕ → Option ℕ → Listed
+add_head l class p first = with_head l class p first (slice_index_or l.places class None)
+
+abbrev pub Lists : List Mark → List Bool → List Pair → Listing → Listing → ℕ → Type 0
+Lists marks looped pairs old new p = listed new ≡ list_node marks looped pairs (listed old) p
+
+abbrev pub ListsAll : List Mark → List Bool → List Pair → Listing → Listing → List ℕ → Type 0
+ListsAll marks looped pairs old new members = listed new ≡ list_nodes marks looped pairs (listed old) members
+
+-- the first two heads of so many classes
+abbrev pub first_heads : List Mark → List Bool → ℕ → ℕ → List ℕ → List Pair
+first_heads marks entered start count members = note_nodes marks entered start (replicate count no_heads) members

@@ -1,5 +1,5 @@
 -- What is held between the levels, and what a level does to it.
-use Rattle.std.specs.Prelude.{ℕ, suc, ◌≡◌, ◌+◌, ◌<◌, ◌≤◌, Bool, true, false, List, None, Some, Contains, replicate, slice_get, length}
+use Rattle.std.specs.Prelude.{ℕ, All, suc, ◌≡◌, ◌+◌, ◌<◌, ◌≤◌, Bool, true, false, List, None, Some, Contains, replicate, slice_get, length}
 use Rattle.std.specs.List.{filter}
 use Rattle.wc_model.specs.declared.graphs.Graph.{Graph}
 use Rattle.wc_model.specs.declared.graphs.Nest.{Nest}
@@ -17,7 +17,7 @@ use Rattle.wc_nest.specs.declared.search.Search.{Search}
 use Rattle.wc_nest.specs.declared.ways.Way.{Way}
 use Rattle.wc_nest.specs.Inner.Classes.{IsFresh, IsClassified}
 use Rattle.wc_nest.specs.Inner.Found.{AreFound}
-use Rattle.wc_nest.specs.Inner.Levels.{IsLevel, Listed, listed, list_nodes, is_looped, is_inner, back_ways}
+use Rattle.wc_nest.specs.Inner.Levels.{IsLevel, class_number, Listed, listed, list_nodes, is_looped, is_inner, back_ways}
 use Rattle.wc_nest.specs.Inner.Marking.{set_all}
 use Rattle.wc_nest.specs.Inner.Nests.{StepAt, IsNestBelow}
 use Rattle.wc_nest.specs.Inner.Rooted.{IsRooted}
@@ -76,3 +76,24 @@ pub record IsAdding (start : ℕ) (level : Level) (found : Found) (old new : Nes
 pub record IsInnerOf (start : ℕ) (level : Level) (found : Found) (nesting : Nesting) (inner : Level) : Type 0 where
   pub ways : inner.ways.items ≡ filter (is_inner nesting.search.marks.items nesting.entered.items start) level.ways.items
   pub members : inner.members.items ≡ filter (is_looped nesting.search.marks.items found.looped.items) level.members.items
+
+-- what the first level, the next one, and one more step need and give
+
+abbrev pub IsFirstNesting : Graph → Nesting → Type 0
+IsFirstNesting graph nesting = (level : Level) → IsLevelAt graph 0 level → IsNesting graph 0 nesting level
+
+abbrev pub IsStepped : Graph → Level → Nesting → Nesting → Next → Type 0
+IsStepped graph level old new next = (k : ℕ) → IsNesting graph k old level → IsNext graph k level next new
+
+abbrev pub AreSorted : List Step → Type 0
+AreSorted steps = (i j : ℕ) (s t : Step) → i < j → slice_get steps i ≡ Some s → slice_get steps j ≡ Some t → s.source ≤ t.source
+
+abbrev pub AddsWay : List Step → ℕ → List Way → List Way → Type 0
+AddsWay steps k old new = AreWays steps k old → AreWays steps (k + 1) new
+
+-- the classes of a level's members have numbers below a count
+abbrev pub AreNumbered : Search → Level → ℕ → Type 0
+AreNumbered s level count = All (λ p. class_number s.marks.items p < count) level.members.items
+
+abbrev pub cleared : {X : Type 0} → Level → List X → X → List X
+cleared level xs x = set_all xs level.members.items x

@@ -1,11 +1,11 @@
 -- What the path-based search for the classes of a level knows while it runs. After Gabow 2000.
-use Rattle.std.specs.Prelude.{ℕ, ◌≡◌, ◌+◌, ◌-◌, ◌*◌, ◌<◌, ◌≤◌, ◌⊎◌, Bool, true, false, List, Option, None, Some, AllPairs, Contains, slice_get, slice_index, length, sum_by}
+use Rattle.std.specs.Prelude.{ℕ, ◌++◌, ◌∷◌, [], drop, slice_set, ◌≡◌, ◌+◌, ◌-◌, ◌*◌, ◌<◌, ◌≤◌, ◌⊎◌, Bool, true, false, List, Option, None, Some, AllPairs, Contains, slice_get, slice_index, length, sum_by}
 use Rattle.wc_model.specs.Program.Reaching.{Reaches}
 use Rattle.wc_nest.specs.declared.marking.Mark.{Mark}
 use Rattle.wc_nest.specs.declared.marking.Mark.TheVariants.{New, Open, Done}
 use Rattle.wc_nest.specs.declared.search.Search.{Search}
 use Rattle.wc_nest.specs.declared.ways.Way.{Way}
-use Rattle.wc_nest.specs.Inner.Marking.{IsMarked}
+use Rattle.wc_nest.specs.Inner.Marking.{IsMarked, set_all}
 use Rattle.wc_nest.specs.Inner.Ways.{WaysLead}
 
 -- no segment of the stack begins after place `j` and up to place `i`
@@ -89,3 +89,16 @@ pub record IsRound (ways : List Way) (old new : Search) : Type 0 where
   pub search : IsSearch ways new
   pub fewer : rounds_left ways new < rounds_left ways old
   pub spreads : Spreads ways old.marks.items new.marks.items
+
+-- what a search does to its lists: a node is entered, a way of it followed, and the last segment closed
+abbrev pub marks_entered : Search → ℕ → List Mark
+marks_entered s node = slice_set s.marks.items node (Open (length s.stack.items))
+
+abbrev pub with_top : Search → List ℕ → List ℕ
+with_top s places = places ++ length s.stack.items ∷ []
+
+abbrev pub next_followed : Search → ℕ → List ℕ
+next_followed s node = slice_set s.next.items node (slice_index s.next.items node + 1)
+
+abbrev pub marks_closed : Search → ℕ → List Mark
+marks_closed s place = set_all s.marks.items (drop place s.stack.items) (Done (length s.roots.items))
