@@ -17,7 +17,7 @@ use Rattle.wc_model.specs.Program.Graphs.{LeadsIn, IsGraph}
 use Rattle.wc_model.specs.Program.Positions.{Position}
 use Rattle.wc_model.proofs.Places.{contains_from_get, get_from_contains, get_push_cases, get_within}
 use Rattle.wc_bounds.specs.declared.best.Best.{Best}
-use Rattle.wc_bounds.specs.declared.bounds.Tally.{Tally}
+use Rattle.wc_bounds.specs.declared.tallies.Tally.{Tally}
 use Rattle.wc_bounds.specs.Heads.{HavePlaces}
 use Rattle.wc_bounds.specs.Inner.Best.{offered, IsAt}
 use Rattle.wc_bounds.specs.Inner.Stated.{IsBestFrom}

@@ -3,11 +3,11 @@
 #![tactic(auto)]
 
 mod best;
-mod bounds;
 mod fitting;
 mod stated;
+mod tallies;
 
-pub use bounds::bounds;
+pub use tallies::bounds;
 
 #[cfg(test)]
 mod tests;

@@ -8,7 +8,7 @@ use Rattle.wc_model.specs.declared.graphs.Nest.{Nest}
 use Rattle.wc_model.specs.declared.graphs.Node.{Node}
 use Rattle.wc_model.specs.Flow.Bounds.{StandsFor, IsBoundOf, HasNoBound, AreBounds, IsUnbounded}
 use Rattle.wc_model.specs.Program.Positions.{Position}
-use Rattle.wc_bounds.specs.declared.bounds.Tally.{Tally}
+use Rattle.wc_bounds.specs.declared.tallies.Tally.{Tally}
 
 -- the lesser of the least address so far, if there is one, and another
 abbrev pub lesser_at : Option ℕ → ℕ → ℕ

@@ -1,7 +1,7 @@
 use Rattle.std.proofs.Common.{ℕ, ◌≡◌, length, map, ap, subst, arith}
 use Rattle.wc_model.specs.declared.flow_facts.Fact.{Fact}
 use Rattle.wc_bounds.specs.Inner.Tallies.{IsTally}
-use Rattle.wc_bounds.proofs.bounds.tally_heads.Goals as goal
+use Rattle.wc_bounds.proofs.tallies.tally_heads.Goals as goal
 
 pub returns : goal.returns
 returns c =
