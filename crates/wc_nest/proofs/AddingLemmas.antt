@@ -1,7 +1,6 @@
 -- What a level adds to the nest.
-use Rattle.std.proofs.Common.{ℕ, zero, suc, ◌≡◌, ◌+◌, ◌<◌, ◌≤◌, ◌⊎◌, inl, inr, ⊎_elim, Bool, true, false, ◌&&◌, List, [], ◌∷◌, ◌++◌, Option, None, Some, length, refl, sym, ap, subst, ◌∙◌, arith}
+use Rattle.std.proofs.Common.{ℕ, ◌≡◌, ◌≤◌, ◌⊎◌, inl, inr, ⊎_elim, Bool, true, false, ◌&&◌, List, Option, None, Some, length, refl, sym, ap, subst, ◌∙◌, arith}
 use Rattle.std.specs.List.{Contains, slice_get, slice_index_or}
-use Rattle.std.proofs.lemmas.Bool.{cases_lt}
 use Rattle.std.proofs.lemmas.Option.{none-some, same_Some, slice_get_within, get_or_from_slice_get}
 use Rattle.wc_model.specs.declared.graphs.Graph.{Graph}
 use Rattle.wc_model.specs.declared.graphs.Head.{Head}
@@ -17,8 +16,8 @@ use Rattle.wc_nest.specs.Inner.Found.{AreFound}
 use Rattle.wc_nest.specs.Inner.Heads.{pair_at, IsLeastOf, IsPlaceOf, AreListed}
 use Rattle.wc_nest.specs.Inner.Levels.{IsLevel, class_number, stays, is_entered, is_looped, Listed, is_back, back_ways}
 use Rattle.wc_nest.specs.Inner.Nests.{StepAt, GoesBackAt, IsNestAt}
-use Rattle.wc_nest.proofs.FaultLemmas.{head_member, same_number, together_of, loop_leads, leads_loop, first_head}
-use Rattle.wc_nest.proofs.FlagLemmas.{true_or_false, not_both, length-flag_all, flag_kept, flag_set, flag_from}
+use Rattle.wc_nest.proofs.FaultLemmas.{same_number, together_of, loop_leads, leads_loop, first_head}
+use Rattle.wc_nest.proofs.FlagLemmas.{not_both, length-flag_all, flag_kept, flag_set, flag_from}
 use Rattle.wc_nest.proofs.LevelLemmas.{led_member, stays_together, together_stays, entered_head, head_entered}
 use Rattle.wc_nest.proofs.NestLemmas.{step_at}
 use Rattle.wc_nest.proofs.RelationLemmas.{together_self, IsSingle}

@@ -1,12 +1,11 @@
 -- What the tests find out of a graph.
-use Rattle.std.proofs.Common.{ℕ, zero, suc, ◌≡◌, ◌≢◌, ◌+◌, ◌<◌, ◌≤◌, ◌^◌, ⊎_elim, Bool, true, false, List, [], ◌∷◌, Option, None, Some, IfSome, All, length, replicate, set, refl, sym, ap, subst, ◌∙◌, arith}
-use Rattle.std.specs.List.{AllPairs, Contains, slice_get, slice_index_or}
+use Rattle.std.proofs.Common.{ℕ, zero, suc, ◌≡◌, ◌+◌, ◌<◌, ◌≤◌, ◌^◌, ⊎_elim, Bool, true, false, List, [], ◌∷◌, Option, None, Some, IfSome, All, length, replicate, set, refl, sym, ap, subst, ◌∙◌, arith}
+use Rattle.std.specs.List.{Contains, slice_get, slice_index_or}
 use Rattle.std.proofs.lemmas.Bool.{cases_lt}
 use Rattle.std.proofs.lemmas.List.Elements.{All-contains, All-weaker, All-contains_itself}
 use Rattle.std.proofs.lemmas.Option.{none-some, same_Some, slice_get_within, slice_get-get_or}
 use Rattle.wc_model.specs.declared.graphs.Context.{Context}
 use Rattle.wc_model.specs.declared.graphs.Graph.{Graph}
-use Rattle.wc_model.specs.declared.graphs.Node.{Node}
 use Rattle.wc_model.specs.declared.graphs.Step.{Step}
 use Rattle.wc_model.specs.Program.Graphs.{LeadsIn, IsGraph}
 use Rattle.wc_model.specs.Program.Reaching.{Reaches, here, along, Ends, exits, onward}

@@ -1,19 +1,19 @@
 -- From one node to the classes of all members.
-use Rattle.std.proofs.Common.{Bool, true, false, ℕ, zero, suc, ◌≡◌, ◌+◌, ◌-◌, ◌<◌, ◌≤◌, ◌⊎◌, inl, inr, ⊎_elim, List, [], ◌∷◌, ◌++◌, Option, None, Some, All, length, set, refl, sym, ap, subst, ◌∙◌, arith}
+use Rattle.std.proofs.Common.{true, false, ℕ, ◌≡◌, ◌+◌, ◌-◌, ◌<◌, ◌≤◌, inl, inr, ⊎_elim, List, [], ◌∷◌, ◌++◌, Some, length, set, refl, sym, ap, subst, ◌∙◌, arith}
 use Rattle.std.specs.List.{AllPairs, Contains, slice_get, slice_index}
 use Rattle.std.proofs.lemmas.Bool.{cases_eq, cases_lt}
 use Rattle.std.proofs.lemmas.List.{length-set, get_or-set_same, get_or-set_other}
 use Rattle.std.proofs.lemmas.Option.{none-some, same_Some, slice_get_within}
 use Rattle.wc_model.specs.Program.Reaching.{Reaches, here, along}
-use Rattle.wc_model.proofs.Places.{contains_from_get, get_from_contains, get_within, get_set, get_set_other, get_set_cases}
+use Rattle.wc_model.proofs.Places.{get_from_contains, get_within, get_set, get_set_other, get_set_cases}
 use Rattle.wc_model.proofs.Starting.{sorted_at}
 use Rattle.wc_nest.specs.declared.marking.Mark.{Mark}
 use Rattle.wc_nest.specs.declared.marking.Mark.TheVariants.{New, Open, Done}
 use Rattle.wc_nest.specs.declared.search.Search.{Search}
 use Rattle.wc_nest.specs.declared.ways.Way.{Way}
-use Rattle.wc_nest.specs.Inner.Classes.{IsFirstWay, StartsAt, AreFirst, IsRested, IsVisit, AreClasses, AreEnds}
+use Rattle.wc_nest.specs.Inner.Classes.{IsFirstWay, AreFirst, IsRested, IsVisit, AreClasses}
 use Rattle.wc_nest.specs.Inner.Marking.{IsMarked, IsOf}
-use Rattle.wc_nest.specs.Inner.Searches.{IsSearch, IsSearchOf, IsTarget, Spreads}
+use Rattle.wc_nest.specs.Inner.Searches.{IsSearchOf, Spreads}
 use Rattle.wc_nest.specs.Inner.Ways.{way_ends, WaysLead}
 use Rattle.wc_nest.proofs.ListLemmas.{empty_contains}
 use Rattle.wc_nest.proofs.SearchLemmas.{enters}

@@ -1,7 +1,7 @@
 -- The heads of a level's classes, and the class with two.
-use Rattle.std.proofs.Common.{ℕ, zero, suc, ◌≡◌, ◌+◌, ◌<◌, ◌≤◌, ◌⊎◌, inl, inr, ⊎_elim, Bool, true, false, List, [], ◌∷◌, Option, None, Some, length, replicate, refl, sym, ap, subst, ◌∙◌, arith}
-use Rattle.std.specs.List.{Contains, slice_get, slice_index_or}
-use Rattle.std.proofs.lemmas.Bool.{cases_eq, cases_lt}
+use Rattle.std.proofs.Common.{ℕ, ◌≡◌, ◌<◌, ◌≤◌, ◌⊎◌, inl, inr, ⊎_elim, Bool, true, List, Option, None, Some, length, replicate, refl, sym, ap, subst, ◌∙◌, arith}
+use Rattle.std.specs.List.{Contains, slice_get}
+use Rattle.std.proofs.lemmas.Bool.{cases_lt}
 use Rattle.std.proofs.lemmas.List.{length-replicate}
 use Rattle.std.proofs.lemmas.Option.{none-some, same_Some, slice_get-get_or}
 use Rattle.wc_model.specs.declared.graphs.Step.{Step}
@@ -15,13 +15,13 @@ use Rattle.wc_nest.specs.declared.marking.Mark.TheVariants.{Done}
 use Rattle.wc_nest.specs.declared.ways.Way.{Way}
 use Rattle.wc_nest.specs.Inner.Found.{AreFound}
 use Rattle.wc_nest.specs.Inner.Heads.{EntersIn, Noted, AreNoted, pair_at}
-use Rattle.wc_nest.specs.Inner.Levels.{IsLevel, class_number, is_entered, is_looped, no_heads, note_nodes, second_of}
+use Rattle.wc_nest.specs.Inner.Levels.{IsLevel, class_number, is_looped, no_heads, second_of}
 use Rattle.wc_nest.specs.Inner.Marking.{IsOf}
 use Rattle.wc_nest.proofs.FlagLemmas.{number_is}
 use Rattle.wc_nest.proofs.HeadLemmas.{length-note_nodes, all_noted, second_none, second_some, IsFirstTwo}
 use Rattle.wc_nest.proofs.LevelLemmas.{led_member, reach_of, same_of, inside, member_number, looped_leads, leads_looped, entered_head, head_entered}
 use Rattle.wc_nest.proofs.ListLemmas.{rises_at}
-use Rattle.wc_nest.proofs.RelationLemmas.{reach_cases, led_then, together_self, IsSingle, head_of}
+use Rattle.wc_nest.proofs.RelationLemmas.{reach_cases, together_self, IsSingle, head_of}
 use Rattle.wc_nest.specs.Inner.Rooted.{IsRooted}
 
 module _ (nodes : ℕ) (R : ℕ → Option ℕ → Type 0) (start : ℕ) (steps : List Step) (members : List ℕ) (ways : List Way) (level : IsLevel nodes R steps members ways) (graphs : (p q : ℕ) → R p (Some q) → LeadsIn steps p (Some q)) (marks : List Mark) (count : ℕ) (old entered looped : List Bool) (pairs : List Pair) (counted : length old ≡ nodes) (unflagged : (q : ℕ) → slice_get old q ≡ Some true → ⊥) (found : AreFound start members ways marks count old entered looped pairs) where

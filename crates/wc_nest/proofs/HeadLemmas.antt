@@ -1,16 +1,15 @@
 -- The first two heads of each class, member by member, and the first class with two.
-use Rattle.std.proofs.Common.{ℕ, zero, suc, ◌≡◌, ◌+◌, ◌<◌, ◌≤◌, ◌⊎◌, inl, inr, ⊎_elim, Bool, true, false, List, [], ◌∷◌, ◌++◌, Option, None, Some, length, set, replicate, refl, sym, ap, subst, ◌∙◌, append_assoc, append-nil, arith}
-use Rattle.std.specs.List.{AllPairs, Contains, slice_get, slice_index_or}
-use Rattle.std.proofs.lemmas.Bool.{cases_eq, cases_lt}
+use Rattle.std.proofs.Common.{ℕ, zero, suc, ◌≡◌, ◌<◌, ⊎_elim, Bool, true, false, List, [], ◌∷◌, ◌++◌, Option, None, Some, length, replicate, refl, sym, subst, ◌∙◌, append_assoc, append-nil, arith}
+use Rattle.std.specs.List.{AllPairs, Contains, slice_get}
 use Rattle.std.proofs.lemmas.List.{length-set, length-replicate}
 use Rattle.std.proofs.lemmas.List.Elements.{Contains-push, Contains-push_cases, Contains-append_left}
-use Rattle.std.proofs.lemmas.Option.{none-some, same_Some, slice_get_within, slice_get-get_or}
+use Rattle.std.proofs.lemmas.Option.{none-some, same_Some, slice_get-get_or}
 use Rattle.wc_model.proofs.Places.{get_set_cases}
 use Rattle.wc_nest.specs.declared.heads.Pair.{Pair}
 use Rattle.wc_nest.specs.declared.marking.Mark.{Mark}
 use Rattle.wc_nest.specs.Inner.Heads.{EntersIn, Noted, AreNoted, pair_at}
 use Rattle.wc_nest.specs.Inner.Levels.{class_number, is_entered, no_heads, with_node, note_node, note_nodes, or_next, second_of}
-use Rattle.wc_nest.proofs.FlagLemmas.{true_or_false, not_both, contains_cases}
+use Rattle.wc_nest.proofs.FlagLemmas.{not_both, contains_cases}
 use Rattle.wc_nest.proofs.ListLemmas.{contains_head, contains_tail, empty_contains, rises_head, rises_tail}
 
 module _ (marks : List Mark) (entered : List Bool) (start : ℕ) where

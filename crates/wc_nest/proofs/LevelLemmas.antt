@@ -1,16 +1,16 @@
 -- The classes and flags of a level, in the terms of its steps.
-use Rattle.std.proofs.Common.{ℕ, zero, suc, ◌≡◌, ◌+◌, ◌<◌, ◌≤◌, ◌⊎◌, inl, inr, ⊎_elim, Bool, true, false, not, ◌&&◌, List, [], ◌∷◌, Option, None, Some, All, length, replicate, refl, sym, ap, subst, ◌∙◌, arith}
-use Rattle.std.specs.List.{Contains, slice_get, slice_index_or, filter}
+use Rattle.std.proofs.Common.{ℕ, zero, suc, ◌≡◌, ◌<◌, ◌≤◌, ◌⊎◌, inl, inr, ⊎_elim, Bool, true, false, not, ◌&&◌, List, Option, Some, length, replicate, refl, sym, ap, subst, ◌∙◌, arith}
+use Rattle.std.specs.List.{Contains, slice_get, filter}
 use Rattle.std.proofs.lemmas.Bool.{cases_eq}
 use Rattle.std.proofs.lemmas.List.Elements.{All-contains, All-filter}
 use Rattle.std.proofs.lemmas.List.{length-replicate}
 use Rattle.std.proofs.lemmas.List.Kept.{AllPairs-filter}
-use Rattle.std.proofs.lemmas.Option.{none-some, same_Some, slice_get_within}
+use Rattle.std.proofs.lemmas.Option.{none-some, same_Some}
 use Rattle.wc_model.specs.declared.graphs.Step.{Step}
 use Rattle.wc_model.specs.Flow.Nest.{Together, IsHead, Inner}
-use Rattle.wc_model.specs.Flow.Walks.{AreSteps, LeadsOn}
+use Rattle.wc_model.specs.Flow.Walks.{LeadsOn}
 use Rattle.wc_model.specs.Program.Graphs.{LeadsIn}
-use Rattle.wc_model.specs.Program.Reaching.{Reaches, here, along}
+use Rattle.wc_model.specs.Program.Reaching.{Reaches}
 use Rattle.wc_model.proofs.Places.{get_from_contains}
 use Rattle.wc_nest.specs.declared.marking.Mark.{Mark}
 use Rattle.wc_nest.specs.declared.marking.Mark.TheVariants.{Done}
@@ -18,9 +18,9 @@ use Rattle.wc_nest.specs.declared.ways.Way.{Way}
 use Rattle.wc_nest.specs.Inner.Classes.{AreClasses}
 use Rattle.wc_nest.specs.Inner.Levels.{IsLevel, class_number, stays, enter_ways, is_entered, loop_ways, is_looped, is_inner}
 use Rattle.wc_nest.specs.Inner.Marking.{IsOf}
-use Rattle.wc_nest.specs.Inner.Ways.{way_ends, WaysLead}
-use Rattle.wc_nest.proofs.FlagLemmas.{true_or_false, not_both, length-flag_all, flag_set, flag_from, filter_from, filter_to, filter_shorter, number_is, stays_same, same_stays, crosses_apart, apart_crosses, flag_at, at_flag, entered_cases, entered_start, entered_flag}
-use Rattle.wc_nest.proofs.RelationLemmas.{reaches_map, reaches_on, led_reach, led_one, led_on, on_led, reach_cases, together_self, together_step, IsSingle, head_of, head_leaves}
+use Rattle.wc_nest.specs.Inner.Ways.{WaysLead}
+use Rattle.wc_nest.proofs.FlagLemmas.{true_or_false, not_both, flag_set, flag_from, filter_from, filter_to, filter_shorter, number_is, stays_same, same_stays, flag_at, at_flag, entered_cases, entered_start, entered_flag}
+use Rattle.wc_nest.proofs.RelationLemmas.{reaches_map, led_reach, led_on, on_led, together_self, together_step, head_of}
 use Rattle.wc_nest.specs.Inner.Rooted.{IsRooted}
 
 no_flag : (n q : ℕ) → slice_get (replicate n false) q ≡ Some true → ⊥

@@ -1,8 +1,8 @@
 -- The heads of a level, member by member.
-use Rattle.std.proofs.Common.{ℕ, zero, suc, ◌≡◌, ◌+◌, ◌<◌, ◌≤◌, ◌⊎◌, inl, inr, ⊎_elim, Bool, true, false, List, [], ◌∷◌, ◌++◌, Option, None, Some, length, set, replicate, refl, sym, ap, subst, ◌∙◌, append_assoc, append-nil, arith}
+use Rattle.std.proofs.Common.{ℕ, zero, suc, ◌≡◌, ◌<◌, ◌≤◌, ⊎_elim, Bool, true, false, List, [], ◌∷◌, ◌++◌, Option, None, Some, length, set, refl, sym, ap, subst, ◌∙◌, append_assoc, append-nil, arith}
 use Rattle.std.specs.List.{AllPairs, Contains, slice_get, slice_index_or}
-use Rattle.std.proofs.lemmas.Bool.{cases_eq, cases_lt}
-use Rattle.std.proofs.lemmas.List.{length-set, length_push, length-append}
+use Rattle.std.proofs.lemmas.Bool.{cases_eq}
+use Rattle.std.proofs.lemmas.List.{length-set, length-append}
 use Rattle.std.proofs.lemmas.List.Elements.{Contains-push, Contains-push_cases, Contains-append_left}
 use Rattle.std.proofs.lemmas.Option.{none-some, same_Some, slice_get_within, slice_get-get_or}
 use Rattle.wc_model.specs.declared.graphs.Head.{Head}
@@ -10,8 +10,8 @@ use Rattle.wc_model.proofs.Places.{get_left, get_push, get_push_cases, get_set, 
 use Rattle.wc_nest.specs.declared.heads.Pair.{Pair}
 use Rattle.wc_nest.specs.declared.marking.Mark.{Mark}
 use Rattle.wc_nest.specs.Inner.Heads.{pair_at, IsLeastOf, IsPlaceOf, AreListed}
-use Rattle.wc_nest.specs.Inner.Levels.{class_number, is_looped, Listed, with_head, put_inside, list_class, list_node, list_nodes}
-use Rattle.wc_nest.proofs.FlagLemmas.{true_or_false, not_both}
+use Rattle.wc_nest.specs.Inner.Levels.{class_number, is_looped, Listed, with_head, put_inside, list_node, list_nodes}
+use Rattle.wc_nest.proofs.FlagLemmas.{not_both}
 use Rattle.wc_nest.proofs.ListLemmas.{contains_head, contains_tail, empty_contains, rises_head, rises_tail, set_other}
 
 got : {X : Type 0} → Option X → X → X

@@ -1,19 +1,17 @@
 -- The nest grows by one level, and is whole where no step is left.
-use Rattle.std.proofs.Common.{ℕ, zero, suc, ◌≡◌, ◌+◌, ◌-◌, ◌<◌, ◌≤◌, ◌⊎◌, inl, inr, ⊎_elim, Bool, true, false, List, [], ◌∷◌, ◌++◌, Option, None, Some, length, get_or, replicate, refl, sym, ap, subst, ◌∙◌, arith}
-use Rattle.std.specs.List.{AllPairs, AllZip, Contains, slice_get, slice_index_or}
-use Rattle.std.proofs.lemmas.Bool.{cases_eq, cases_lt}
-use Rattle.std.proofs.lemmas.List.{length-append, length-replicate}
-use Rattle.std.proofs.lemmas.Option.{none-some, same_Some, slice_get_within, slice_get-get_or}
+use Rattle.std.proofs.Common.{ℕ, zero, suc, ◌≡◌, ◌+◌, ◌-◌, ◌<◌, ◌≤◌, inl, inr, ⊎_elim, Bool, true, false, List, [], ◌∷◌, Option, None, Some, length, replicate, refl, sym, ap, subst, ◌∙◌, arith}
+use Rattle.std.specs.List.{AllZip, slice_get, slice_index_or}
+use Rattle.std.proofs.lemmas.Bool.{cases_lt}
+use Rattle.std.proofs.lemmas.List.{length-replicate}
+use Rattle.std.proofs.lemmas.Option.{none-some, same_Some, slice_get-get_or}
 use Rattle.wc_model.specs.declared.graphs.Graph.{Graph}
 use Rattle.wc_model.specs.declared.graphs.Head.{Head}
 use Rattle.wc_model.specs.declared.graphs.Nest.{Nest}
 use Rattle.wc_model.specs.declared.graphs.Step.{Step}
-use Rattle.wc_model.specs.Flow.Nest.{StepsAt, IsHead, IsBackStep, HeadAt, ClassAt, IsListed, ComesBefore, IsHeadFor, IsParent, IsInside, IsBack, IsNest}
-use Rattle.wc_model.specs.Flow.Walks.{LeadsOn}
+use Rattle.wc_model.specs.Flow.Nest.{HeadAt, ClassAt, IsListed, ComesBefore, IsHeadFor, IsParent, IsInside, IsBack, IsNest}
 use Rattle.wc_model.specs.Program.Graphs.{LeadsIn}
-use Rattle.wc_model.proofs.Places.{get_left, get_within}
+use Rattle.wc_model.proofs.Places.{get_left}
 use Rattle.wc_nest.specs.Inner.Nests.{StepAt, GoesBackAt, IsInsideBelow, IsNestBelow, IsNestAt}
-use Rattle.wc_nest.proofs.FlagLemmas.{true_or_false, not_both}
 use Rattle.wc_nest.proofs.ListLemmas.{get_front, pairs_from}
 use Rattle.wc_nest.proofs.RelationLemmas.{inner_leads, together_then, led_then}
 

@@ -1,7 +1,6 @@
 -- From level to level.
-use Rattle.std.proofs.Common.{Vec, Global, ℕ, zero, suc, ◌≡◌, ◌≢◌, ◌+◌, ◌<◌, ◌≤◌, ◌^◌, ◌⊎◌, inl, inr, ⊎_elim, Bool, true, false, List, [], ◌∷◌, ◌++◌, not, Option, None, Some, IfSome, All, map, length, get_or, replicate, refl, sym, ap, subst, ◌∙◌, arith}
-use Rattle.std.specs.List.{AllPairs, Contains, slice_get, slice_index_or, filter}
-use Rattle.std.proofs.lemmas.Bool.{cases_lt}
+use Rattle.std.proofs.Common.{Vec, Global, ℕ, zero, suc, ◌≡◌, ◌≢◌, ◌+◌, ◌<◌, ◌≤◌, ◌^◌, ⊎_elim, Bool, true, false, List, [], ◌∷◌, not, Option, None, Some, IfSome, All, map, length, get_or, replicate, refl, sym, ap, subst, ◌∙◌, arith}
+use Rattle.std.specs.List.{AllPairs, Contains, slice_get, filter}
 use Rattle.std.proofs.lemmas.Bool.Decides.{Decides-eqb, eqb_tells}
 use Rattle.std.proofs.Math.Dec.{eqb}
 use Rattle.std.proofs.lemmas.List.{length-replicate, length-map}
@@ -13,8 +12,8 @@ use Rattle.std.proofs.lemmas.Option.{none-some, same_Some, slice_get_within, sli
 use Rattle.wc_model.specs.declared.graphs.Graph.{Graph}
 use Rattle.wc_model.specs.declared.graphs.Head.{Head}
 use Rattle.wc_model.specs.declared.graphs.Step.{Step}
-use Rattle.wc_model.specs.Flow.Nest.{HeadAt, ClassAt, ComesBefore, IsIrreducible, IsSecond}
-use Rattle.wc_model.specs.Flow.Walks.{AreSteps, LeadsOn}
+use Rattle.wc_model.specs.Flow.Nest.{HeadAt, ClassAt, ComesBefore, IsIrreducible}
+use Rattle.wc_model.specs.Flow.Walks.{AreSteps}
 use Rattle.wc_model.specs.Program.Graphs.{LeadsIn, IsGraph}
 use Rattle.wc_model.proofs.Places.{contains_from_get, get_from_contains, get_within}
 use Rattle.wc_nest.specs.declared.levels.Found.{Found}
@@ -25,19 +24,18 @@ use Rattle.wc_nest.specs.declared.listing.Listing.{Listing}
 use Rattle.wc_nest.specs.declared.marking.Mark.TheVariants.{New, Open, Done}
 use Rattle.wc_nest.specs.declared.search.Search.{Search}
 use Rattle.wc_nest.specs.declared.ways.Way.{Way}
-use Rattle.wc_nest.specs.Inner.Classes.{IsFresh}
-use Rattle.wc_nest.specs.Inner.Heads.{pair_at, AreListed}
+use Rattle.wc_nest.specs.Inner.Heads.{AreListed}
 use Rattle.wc_nest.specs.Inner.Levels.{IsLevel, class_number, stays, is_looped, is_inner, no_heads, Listed, listed, list_nodes, back_ways, second_of}
-use Rattle.wc_nest.specs.Inner.Marking.{set_all, IsMarked}
+use Rattle.wc_nest.specs.Inner.Marking.{set_all}
 use Rattle.wc_nest.specs.Inner.Nestings.{IsNesting, IsFinding, IsAdding, IsInnerOf, IsLevelAt}
 use Rattle.wc_nest.specs.Inner.Nests.{StepAt, IsNestBelow, IsNestAt}
 use Rattle.wc_nest.specs.Inner.Rooted.{IsRooted}
 use Rattle.wc_nest.specs.Inner.Ways.{way_ends}
-use Rattle.wc_nest.proofs.AddingLemmas.{decides, nest_at}
+use Rattle.wc_nest.proofs.AddingLemmas.{nest_at}
 use Rattle.wc_nest.proofs.FaultLemmas.{has_first, single_from, second_from, least_of_all, first_two, loop_leads}
 use Rattle.wc_nest.proofs.FlagLemmas.{not_both, length-flag_all, flag_from}
 use Rattle.wc_nest.proofs.HeadLemmas.{length-note_nodes}
-use Rattle.wc_nest.proofs.LevelLemmas.{way_for, led_member, inside, decide, fewer, next_level, member_number}
+use Rattle.wc_nest.proofs.LevelLemmas.{way_for, inside, decide, fewer, next_level, member_number}
 use Rattle.wc_nest.proofs.ListingLemmas.{all_listed}
 use Rattle.wc_nest.proofs.MarkingLemmas.{length-set_all, set_all_in, set_all_cases}
 use Rattle.wc_nest.proofs.NestLemmas.{class_below, step_below, below_more}

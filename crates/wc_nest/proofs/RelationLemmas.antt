@@ -1,5 +1,5 @@
 -- Ways over a relation, and one level of a nest.
-use Rattle.std.proofs.Common.{◌≡◌, ◌⊎◌, inl, inr, ⊎_elim, Option, None, Some, refl, sym, ap, subst, ◌∙◌}
+use Rattle.std.proofs.Common.{◌≡◌, ◌⊎◌, inl, inr, ⊎_elim, Option, Some, refl, sym, subst}
 use Rattle.wc_model.specs.Flow.Nest.{Together, IsHead, Inner}
 use Rattle.wc_model.specs.Flow.Walks.{LeadsOn}
 use Rattle.wc_model.specs.Program.Reaching.{Reaches, here, along}

@@ -1,16 +1,16 @@
 -- Fewer rounds are left after each, and which nodes are marked.
-use Rattle.std.proofs.Common.{ℕ, zero, suc, ◌≡◌, ◌+◌, ◌-◌, ◌<◌, ◌≤◌, ◌⊎◌, inl, inr, ⊎_elim, List, [], ◌∷◌, ◌++◌, Some, length, set, get_or, drop, sum_by, refl, sym, ap, subst, ◌∙◌, arith}
+use Rattle.std.proofs.Common.{ℕ, ◌≡◌, ◌+◌, ◌-◌, ◌<◌, inl, inr, ⊎_elim, List, [], ◌∷◌, ◌++◌, Some, length, set, get_or, sum_by, refl, sym, ap, subst, arith}
 use Rattle.std.specs.List.{Contains, slice_get, slice_index}
 use Rattle.std.proofs.lemmas.Bool.{cases_eq}
 use Rattle.std.proofs.lemmas.List.{length-set, length_push}
 use Rattle.std.proofs.lemmas.List.Sums.{sum_by-set}
-use Rattle.std.proofs.lemmas.Option.{same_Some, slice_get_within, get_or_from_slice_get}
+use Rattle.std.proofs.lemmas.Option.{slice_get_within, get_or_from_slice_get}
 use Rattle.wc_model.proofs.Places.{get_set_cases, get_set, get_set_other}
 use Rattle.wc_model.proofs.Searching.{follow_falls}
 use Rattle.wc_nest.specs.declared.marking.Mark.{Mark}
 use Rattle.wc_nest.specs.declared.marking.Mark.TheVariants.{New, Open, Done}
 use Rattle.wc_nest.specs.declared.ways.Way.{Way}
-use Rattle.wc_nest.specs.Inner.Marking.{set_all, IsMarked}
+use Rattle.wc_nest.specs.Inner.Marking.{set_all}
 use Rattle.wc_nest.specs.Inner.Searches.{weight, rounds_of, IsTarget, Spreads}
 use Rattle.wc_nest.proofs.MarkingLemmas.{length-set_all, set_all_some, set_all_cases, weight-set_all}
 

@@ -1,14 +1,13 @@
 -- Before the first level.
-use Rattle.std.proofs.Common.{ℕ, zero, suc, ◌≡◌, ◌+◌, ◌<◌, ◌≤◌, ◌⊎◌, inl, inr, ⊎_elim, Bool, true, false, List, [], ◌∷◌, ◌++◌, Option, None, Some, IfSome, All, length, replicate, refl, sym, ap, subst, ◌∙◌, arith}
-use Rattle.std.specs.List.{AllPairs, Contains, slice_get}
-use Rattle.std.proofs.lemmas.Bool.{cases_eq, cases_lt}
+use Rattle.std.proofs.Common.{ℕ, zero, suc, ◌≡◌, ◌+◌, ◌<◌, ◌≤◌, inl, ⊎_elim, Bool, true, false, List, [], ◌∷◌, ◌++◌, Option, None, Some, IfSome, All, length, replicate, refl, sym, ap, subst, ◌∙◌, arith}
+use Rattle.std.specs.List.{Contains, slice_get}
+use Rattle.std.proofs.lemmas.Bool.{cases_lt}
 use Rattle.std.proofs.lemmas.List.{length-replicate}
 use Rattle.std.proofs.lemmas.List.Elements.{All-contains, All-weaker, All-contains_itself, Contains-push, Contains-push_cases, Contains-append_left}
 use Rattle.std.proofs.lemmas.Option.{none-some, same_Some, slice_get_within}
 use Rattle.wc_model.specs.declared.graphs.Graph.{Graph}
 use Rattle.wc_model.specs.declared.graphs.Head.{Head}
 use Rattle.wc_model.specs.declared.graphs.Step.{Step}
-use Rattle.wc_model.specs.Flow.Walks.{LeadsOn}
 use Rattle.wc_model.specs.Program.Graphs.{LeadsIn, IsGraph}
 use Rattle.wc_model.proofs.Places.{contains_from_get, get_from_contains, get_push_cases, get_within}
 use Rattle.wc_nest.specs.declared.levels.Level.{Level}

@@ -1,5 +1,5 @@
 -- What is done at a level once its classes are known, as recursions over its ways and members.
-use Rattle.std.specs.Prelude.{ℕ, replicate, ◌≡◌, ◌<◌, ◌≤◌, ◌==◌, ◌&&◌, ◌||◌, not, Bool, true, false, if◌then◌else◌, List, [], ◌∷◌, ◌++◌, Option, None, Some, All, AllPairs, Contains, slice_get, slice_index_or, slice_set, length}
+use Rattle.std.specs.Prelude.{ℕ, replicate, ◌≡◌, ◌<◌, ◌==◌, ◌&&◌, ◌||◌, not, Bool, true, false, if◌then◌else◌, List, [], ◌∷◌, ◌++◌, Option, None, Some, All, AllPairs, Contains, slice_get, slice_index_or, slice_set, length}
 use Rattle.wc_model.specs.declared.graphs.Head.{Head}
 use Rattle.wc_model.specs.declared.graphs.Step.{Step}
 use Rattle.wc_model.specs.Flow.Walks.{AreSteps}

@@ -1,8 +1,7 @@
 -- What is held between the levels, and what a level does to it.
-use Rattle.std.specs.Prelude.{ℕ, All, suc, ◌≡◌, ◌+◌, ◌<◌, ◌≤◌, Bool, true, false, List, None, Some, Contains, replicate, slice_get, length}
+use Rattle.std.specs.Prelude.{ℕ, All, suc, ◌≡◌, ◌+◌, ◌<◌, ◌≤◌, Bool, true, List, None, Some, Contains, replicate, slice_get, length}
 use Rattle.std.specs.List.{filter}
 use Rattle.wc_model.specs.declared.graphs.Graph.{Graph}
-use Rattle.wc_model.specs.declared.graphs.Nest.{Nest}
 use Rattle.wc_model.specs.declared.graphs.Step.{Step}
 use Rattle.wc_model.specs.Flow.Nest.{IsIrreducible, IsNest}
 use Rattle.wc_model.specs.Program.Graphs.{LeadsIn}
@@ -17,7 +16,7 @@ use Rattle.wc_nest.specs.declared.search.Search.{Search}
 use Rattle.wc_nest.specs.declared.ways.Way.{Way}
 use Rattle.wc_nest.specs.Inner.Classes.{IsFresh, IsClassified}
 use Rattle.wc_nest.specs.Inner.Found.{AreFound}
-use Rattle.wc_nest.specs.Inner.Levels.{IsLevel, class_number, Listed, listed, list_nodes, is_looped, is_inner, back_ways}
+use Rattle.wc_nest.specs.Inner.Levels.{IsLevel, class_number, listed, list_nodes, is_looped, is_inner, back_ways}
 use Rattle.wc_nest.specs.Inner.Marking.{set_all}
 use Rattle.wc_nest.specs.Inner.Nests.{StepAt, IsNestBelow}
 use Rattle.wc_nest.specs.Inner.Rooted.{IsRooted}

@@ -1,5 +1,5 @@
 -- The nest as far as the levels below one.
-use Rattle.std.specs.Prelude.{ℕ, zero, suc, ◌≡◌, ◌<◌, ◌≤◌, ◌↔◌, ◌⊎◌, Bool, true, List, ◌++◌, Option, None, Some, AllPairs, slice_get, slice_index_or, length}
+use Rattle.std.specs.Prelude.{ℕ, suc, ◌≡◌, ◌<◌, ◌≤◌, ◌↔◌, ◌⊎◌, Bool, true, List, ◌++◌, Option, None, Some, slice_get, slice_index_or, length}
 use Rattle.wc_model.specs.declared.graphs.Graph.{Graph}
 use Rattle.wc_model.specs.declared.graphs.Head.{Head}
 use Rattle.wc_model.specs.declared.graphs.Step.{Step}

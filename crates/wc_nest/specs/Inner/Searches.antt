@@ -1,5 +1,5 @@
 -- What the path-based search for the classes of a level knows while it runs. After Gabow 2000.
-use Rattle.std.specs.Prelude.{ℕ, ◌++◌, ◌∷◌, [], drop, slice_set, ◌≡◌, ◌+◌, ◌-◌, ◌*◌, ◌<◌, ◌≤◌, ◌⊎◌, Bool, true, false, List, Option, None, Some, AllPairs, Contains, slice_get, slice_index, length, sum_by}
+use Rattle.std.specs.Prelude.{ℕ, ◌++◌, ◌∷◌, [], drop, slice_set, ◌≡◌, ◌+◌, ◌-◌, ◌<◌, ◌≤◌, ◌⊎◌, Bool, true, false, List, Option, None, Some, AllPairs, Contains, slice_get, slice_index, length, sum_by}
 use Rattle.wc_model.specs.Program.Reaching.{Reaches}
 use Rattle.wc_nest.specs.declared.marking.Mark.{Mark}
 use Rattle.wc_nest.specs.declared.marking.Mark.TheVariants.{New, Open, Done}

@@ -1,8 +1,6 @@
-use Rattle.std.proofs.Common.{◌≡◌, ◌<◌, Some, refl, arith}
+use Rattle.std.proofs.Common.{◌≡◌, Some}
 use Rattle.std.specs.List.{slice_get, slice_index_or}
-use Rattle.std.proofs.lemmas.List.Elements.{All-contains}
 use Rattle.std.proofs.lemmas.Option.{slice_get-get_or}
-use Rattle.wc_model.proofs.Places.{contains_from_get}
 use Rattle.wc_nest.specs.declared.ways.Way.{Way}
 use Rattle.wc_nest.proofs.ClassLemmas.{first_new}
 use Rattle.wc_nest.proofs.classes.note_first.Goals as goal

@@ -1,4 +1,4 @@
-use Rattle.std.proofs.Common.{ℕ, suc, ◌≡◌, length, rules}
+use Rattle.std.proofs.Common.{suc, ◌≡◌, length, rules}
 use Rattle.wc_nest.proofs.NestLemmas.{whole}
 use Rattle.wc_nest.proofs.NestingLemmas.{no_step}
 use Rattle.wc_nest.proofs.graph_nest.find_nest.Goals as goal

@@ -1,4 +1,4 @@
-use Rattle.std.proofs.Common.{ℕ, ◌≡◌, ◌≤◌, length}
+use Rattle.std.proofs.Common.{◌≤◌}
 use Rattle.wc_model.specs.declared.graphs.Step.{Step}
 use Rattle.wc_nest.proofs.ListLemmas.{pairs_at}
 use Rattle.wc_nest.proofs.StartLemmas.{level_first}

@@ -1,4 +1,4 @@
-use Rattle.std.proofs.Common.{◌≡◌, List, Option, None, false, length, replicate, ap, ◌∙◌}
+use Rattle.std.proofs.Common.{List, None, false, length, replicate, ap, ◌∙◌}
 use Rattle.wc_model.specs.declared.graphs.Node.{Node}
 use Rattle.wc_model.specs.declared.graphs.Step.{Step}
 use Rattle.wc_nest.specs.declared.marking.Mark.TheVariants.{New}

@@ -1,4 +1,4 @@
-use Rattle.std.proofs.Common.{◌≡◌, Bool, List, false, length, replicate, ap, subst, sym, ◌∙◌}
+use Rattle.std.proofs.Common.{Bool, List, false, length, ap, subst, sym, ◌∙◌}
 use Rattle.std.proofs.lemmas.List.{length-replicate}
 use Rattle.wc_nest.specs.Inner.Checks.{AreEnding}
 use Rattle.wc_nest.proofs.CheckLemmas.{none_ending}

@@ -1,4 +1,4 @@
-use Rattle.std.proofs.Common.{◌≡◌, Bool, List, false, true, length, replicate, set, ap, subst, sym, ◌∙◌, length-set}
+use Rattle.std.proofs.Common.{Bool, List, false, true, length, replicate, set, ap, subst, sym, ◌∙◌, length-set}
 use Rattle.std.proofs.lemmas.List.{length-replicate}
 use Rattle.wc_nest.specs.Inner.Checks.{AreJoined}
 use Rattle.wc_nest.proofs.CheckLemmas.{joined_first}

@@ -1,7 +1,4 @@
-use Rattle.std.proofs.Common.{ℕ, ◌≡◌, List, Option, None, Some, length, sym, refl, ◌∙◌}
-use Rattle.wc_nest.specs.declared.heads.Pair.{Pair}
-use Rattle.wc_nest.specs.declared.marking.Mark.{Mark}
-use Rattle.wc_nest.specs.Inner.Levels.{second_of}
+use Rattle.std.proofs.Common.{ℕ, ◌≡◌, Option, None, Some, sym, refl, ◌∙◌}
 use Rattle.wc_nest.proofs.NestingLemmas.{numbers_found, looped_found, pairs_found, places_found, room_found, second_is, next_nesting}
 use Rattle.wc_nest.proofs.levels.Nesting.step.Goals as goal
 

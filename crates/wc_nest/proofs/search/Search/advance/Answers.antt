@@ -1,16 +1,15 @@
 -- A round of the search.
-use Rattle.std.proofs.Common.{ℕ, ◌≡◌, ◌+◌, ◌-◌, ◌<◌, ◌≤◌, List, Option, None, Some, All, length, get_or, drop, refl, sym, ap, subst, ◌∙◌, arith}
+use Rattle.std.proofs.Common.{ℕ, ◌≡◌, ◌+◌, ◌-◌, ◌<◌, List, Some, All, length, get_or, drop, refl, ap, subst, ◌∙◌, arith}
 use Rattle.std.specs.List.{Contains, slice_get, slice_index}
 use Rattle.std.proofs.lemmas.List.{length_push}
 use Rattle.std.proofs.lemmas.List.Elements.{All-contains}
-use Rattle.std.proofs.lemmas.Option.{same_Some, slice_get_within, slice_get_read, slice_get-get_or}
+use Rattle.std.proofs.lemmas.Option.{slice_get_within, slice_get_read, slice_get-get_or}
 use Rattle.wc_model.proofs.Places.{contains_from_get, get_from_contains}
 use Rattle.wc_nest.specs.declared.marking.Mark.{Mark}
 use Rattle.wc_nest.specs.declared.marking.Mark.TheVariants.{New, Open, Done}
 use Rattle.wc_nest.specs.declared.search.Search.{Search}
 use Rattle.wc_nest.specs.declared.ways.Way.{Way}
-use Rattle.wc_nest.specs.Inner.Searches.{IsSearch, IsSearchOf, IsNextWay, Led}
-use Rattle.wc_nest.specs.Inner.Ways.{way_ends}
+use Rattle.wc_nest.specs.Inner.Searches.{IsSearch, IsSearchOf, Led}
 use Rattle.wc_nest.proofs.ListLemmas.{drop_get}
 use Rattle.wc_nest.proofs.RoundLemmas.{follow_fewer, enter_fewer, leave_fewer, merge_fewer, close_fewer, spreads_same, spreads_open, spreads_done}
 use Rattle.wc_nest.proofs.SearchLemmas.{stack_known, enters_follows, follows, merges, leaves, closes, not_bound, leads_inside, all_ways}

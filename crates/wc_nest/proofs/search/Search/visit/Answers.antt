@@ -1,8 +1,8 @@
-use Rattle.std.proofs.Common.{◌≡◌, List, Some, length, refl, sym, ap, subst, inl, ◌∙◌, arith}
+use Rattle.std.proofs.Common.{◌≡◌, List, Some, length, refl, ap, subst, inl, ◌∙◌}
 use Rattle.std.specs.List.{slice_get}
 use Rattle.std.proofs.lemmas.Option.{slice_get_read}
 use Rattle.wc_nest.specs.declared.marking.Mark.{Mark}
-use Rattle.wc_nest.specs.declared.marking.Mark.TheVariants.{New, Open}
+use Rattle.wc_nest.specs.declared.marking.Mark.TheVariants.{New}
 use Rattle.wc_nest.specs.Inner.Searches.{Spreads}
 use Rattle.wc_nest.proofs.ClassLemmas.{enters_first, visited}
 use Rattle.wc_nest.proofs.search.Search.visit.Goals as goal
