@@ -1,0 +1,4 @@
+pub mod BestLemmas
+pub mod FitLemmas
+pub mod StatedLemmas
+pub mod TallyLemmas

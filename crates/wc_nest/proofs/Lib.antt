@@ -1,0 +1,16 @@
+pub mod AddingLemmas
+pub mod CheckLemmas
+pub mod ClassLemmas
+pub mod FaultLemmas
+pub mod FlagLemmas
+pub mod HeadLemmas
+pub mod LevelLemmas
+pub mod ListLemmas
+pub mod ListingLemmas
+pub mod MarkingLemmas
+pub mod NestLemmas
+pub mod NestingLemmas
+pub mod RelationLemmas
+pub mod RoundLemmas
+pub mod SearchLemmas
+pub mod StartLemmas

@@ -1,0 +1,11 @@
+pub mod Checks
+pub mod Classes
+pub mod Found
+pub mod Heads
+pub mod Levels
+pub mod Marking
+pub mod Nestings
+pub mod Nests
+pub mod Rooted
+pub mod Searches
+pub mod Ways
