@@ -1,9 +1,9 @@
 -- Which kinds stand in a list, and what the descriptions of a list say of a kind.
-use Rattle.std.proofs.Common.{ℕ, zero, suc, ◌≡◌, ◌+◌, ◌<◌, ◌==◌, ◌||◌, Bool, true, false, cond, inl, inr, ⊎_elim, List, [], ◌∷◌, ◌++◌, Option, None, Some, length, refl, sym, ap, subst, ◌∙◌, arith}
+use Rattle.std.proofs.Common.{ℕ, zero, suc, ◌≡◌, ◌<◌, ◌==◌, ◌||◌, Bool, true, false, cond, inl, inr, ⊎_elim, List, [], ◌∷◌, Option, None, Some, refl, sym, ap, subst, ◌∙◌, arith}
 use Rattle.std.specs.Prelude.{◌⊎◌}
-use Rattle.std.specs.List.{All, Contains, find, list_all, list_any, slice_get}
+use Rattle.std.specs.List.{Contains, find, list_all, list_any, slice_get}
 use Rattle.std.specs.Option.{option_map_or}
-use Rattle.std.proofs.lemmas.Bool.{and_cases, and_parts, cases_order, eq-eqb, eqb-true, false_from_ne_true, false≢true, or_cases, or_from, true≢false}
+use Rattle.std.proofs.lemmas.Bool.{and_cases, cases_order, eq-eqb, eqb-true, false_from_ne_true, false≢true, or_cases, or_from, true≢false}
 use Rattle.std.proofs.lemmas.List.Elements.{All-contains, Contains-append_left, Contains-append_right, Contains-push}
 use Rattle.std.proofs.lemmas.List.Folds.{list_any_at}
 use Rattle.std.proofs.lemmas.List.Sums.{AllPass-from_list_all}
@@ -12,7 +12,7 @@ use Rattle.wc_model.specs.declared.kinds.Describe.{Describe}
 use Rattle.wc_model.specs.declared.kinds.Part.{Part}
 use Rattle.wc_model.specs.Workspace.Closures.{describe_of, has_kind, reads_of, requires_of}
 use Rattle.wc_model.specs.Workspace.Registry.{IsDoubled, IsProvided, Requires, directly, through}
-use Rattle.wc_model.proofs.Places.{contains_from_get, get_from_contains}
+use Rattle.wc_model.proofs.Places.{get_from_contains}
 use Rattle.wc_registry.specs.Sound.{NoneWith}
 
 -- elements that pass a test
@@ -34,10 +34,10 @@ pub any_at : {X : Type 0} (p : X → Bool) (xs : List X) → list_any p xs ≡ t
 any_at p [] passes = absurd (false≢true passes)
 any_at {X} p (x ∷ xs) passes =
     ⊎_elim (λ (here : p x ≡ true). (x, first_there x xs, here))
-      (λ (later : list_any p xs ≡ true).
-        let found : (y : X) × Contains xs y × (p y ≡ true) = any_at p xs later in
-        (found.0, later_there x found.0 xs found.1, found.2))
-      (or_cases (p x) (list_any p xs) passes)
+    (λ (later : list_any p xs ≡ true).
+    let found : (y : X) × Contains xs y × (p y ≡ true) = any_at p xs later in
+    (found.0, later_there x found.0 xs found.1, found.2))
+    (or_cases (p x) (list_any p xs) passes)
 
 pub any_from : {X : Type 0} (p : X → Bool) (xs : List X) (x : X) → Contains xs x → p x ≡ true → list_any p xs ≡ true
 any_from p xs x there passes = list_any_at p xs there.0 x there.1 (ap p there.2 ∙ passes)
@@ -49,10 +49,10 @@ pub one_fails : {X : Type 0} (p : X → Bool) (xs : List X) → list_all p xs �
 one_fails p [] fails = absurd (true≢false fails)
 one_fails {X} p (x ∷ xs) fails =
     ⊎_elim (λ (here : p x ≡ false). (x, first_there x xs, here))
-      (λ (later : list_all p xs ≡ false).
-        let found : (y : X) × Contains xs y × (p y ≡ false) = one_fails p xs later in
-        (found.0, later_there x found.0 xs found.1, found.2))
-      (and_cases (p x) (list_all p xs) fails)
+    (λ (later : list_all p xs ≡ false).
+    let found : (y : X) × Contains xs y × (p y ≡ false) = one_fails p xs later in
+    (found.0, later_there x found.0 xs found.1, found.2))
+    (and_cases (p x) (list_all p xs) fails)
 
 found_case : {X : Type 0} (p : X → Bool) (x y : X) (xs : List X) (passes : Bool) → p x ≡ passes → cond passes (Some x) (find p xs) ≡ Some y → (find p xs ≡ Some y → Contains xs y × (p y ≡ true)) → Contains (x ∷ xs) y × (p y ≡ true)
 found_case {X} p x y xs true test is later =
@@ -91,9 +91,9 @@ module _ (kinds : List Describe) where
   same_place : NoneWith (IsDoubled kinds) → (k i j : ℕ) (d e : Describe) → slice_get kinds i ≡ Some d → slice_get kinds j ≡ Some e → d.provides ≡ k → e.provides ≡ k → d ≡ e
   same_place single k i j d e at_i at_j is_d is_e =
       ⊎_elim (λ (same : i ≡ j). same_Some d e (sym at_i ∙ ap (λ n. slice_get kinds n) same ∙ at_j))
-        (λ apart. ⊎_elim (λ (less : i < j). absurd (single k (i, j, d, e, less, at_i, at_j, is_d, is_e)))
-          (λ (more : j < i). absurd (single k (j, i, e, d, more, at_j, at_i, is_e, is_d))) apart)
-        (cases_order i j)
+      (λ apart. ⊎_elim (λ (less : i < j). absurd (single k (i, j, d, e, less, at_i, at_j, is_d, is_e)))
+      (λ (more : j < i). absurd (single k (j, i, e, d, more, at_j, at_i, is_e, is_d))) apart)
+      (cases_order i j)
 
   described_as : NoneWith (IsDoubled kinds) → (d : Describe) → Contains kinds d → (o : Option Describe) → describe_of kinds d.provides ≡ o → o ≡ Some d
   described_as single d there None is = absurd (false≢true (sym (none_found (λ e. e.provides == d.provides) kinds is) ∙ any_from (λ e. e.provides == d.provides) kinds d there (eq-eqb d.provides d.provides refl)))
@@ -136,8 +136,8 @@ module _ (kinds : List Describe) where
   first_step (directly there) = inl there
   first_step (through {i = i} way there) =
       ⊎_elim (λ first. inr (i, first, directly there))
-        (λ later. inr (later.0, later.1, through later.2 there))
-        (first_step way)
+      (λ later. inr (later.0, later.1, through later.2 there))
+      (first_step way)
 
   pub requires_provided : {k j : ℕ} → Requires kinds k j → IsProvided kinds k
   requires_provided (directly {j = j} there) = let found = requires_from _ j there in (found.0, found.1, found.2)

@@ -1,21 +1,20 @@
 -- The greedy order of a sound list: each kind stands once and after what it requires, and none is left.
-use Rattle.std.proofs.Common.{ℕ, zero, suc, ◌≡◌, ◌+◌, ◌-◌, ◌<◌, ◌≤◌, ◌==◌, ◌||◌, ◌&&◌, Bool, true, false, not, cond, nat_lt, if◌then◌else◌, inl, inr, ⊎_elim, List, [], ◌∷◌, ◌++◌, Option, None, Some, length, take, refl, sym, ap, subst, ◌∙◌, arith}
-use Rattle.std.specs.Prelude.{◌⊎◌}
-use Rattle.std.specs.List.{All, Contains, count_by, list_all, list_any, slice_get, slice_index_or}
-use Rattle.std.proofs.lemmas.Bool.{and_cases, and_from, and_parts, cases_Bool, eq-eqb, eqb-true, false_from_ne_true, false≢true, ltb-false, ltb-true, not-false, not-true, not_from_false, not_from_true, or_cases, or_left, or_parts, or_right, true≢false}
-use Rattle.std.proofs.lemmas.List.{length_push, take-append-le, take_at}
-use Rattle.std.proofs.lemmas.List.Elements.{All-contains, Contains-push_cases}
+use Rattle.std.proofs.Common.{ℕ, zero, suc, ◌≡◌, ◌+◌, ◌-◌, ◌<◌, ◌≤◌, ◌==◌, ◌||◌, ◌&&◌, Bool, true, false, not, cond, nat_lt, if◌then◌else◌, ⊎_elim, List, [], ◌∷◌, ◌++◌, Option, None, Some, length, take, refl, sym, ap, subst, ◌∙◌, arith}
+use Rattle.std.specs.List.{All, Contains, count_by, list_any, slice_get, slice_index_or}
+use Rattle.std.proofs.lemmas.Bool.{and_cases, and_from, and_parts, cases_Bool, eq-eqb, eqb-true, false_from_ne_true, false≢true, ltb-false, ltb-true, not-false, not-true, not_from_false, not_from_true, or_left, or_parts, or_right, true≢false}
+use Rattle.std.proofs.lemmas.List.{take-append-le, take_at}
+use Rattle.std.proofs.lemmas.List.Elements.{Contains-push_cases}
 use Rattle.std.proofs.lemmas.List.Folds.{list_any-append}
 use Rattle.std.proofs.lemmas.List.Sums.{AllPass-from_list_all, count_by-le-length, get_or-le-sum_by, list_all-from_AllPass, sum_by-cons}
 use Rattle.std.proofs.lemmas.Option.{none-some, slice_get_within}
 use Rattle.wc_model.specs.declared.kinds.Describe.{Describe}
 use Rattle.wc_model.specs.Workspace.Closures.{has_all, has_kind, lesser, next_available, order_of, placed_after, placed_next, requires_of}
-use Rattle.wc_model.specs.Workspace.Registry.{IsCyclic, IsDoubled, IsMissing, IsOrderOf, IsProvided, Requires, directly}
+use Rattle.wc_model.specs.Workspace.Registry.{IsCyclic, IsDoubled, IsMissing, IsOrderOf, IsProvided, directly}
 use Rattle.wc_model.proofs.Places.{contains_from_get, get_push_cases}
 use Rattle.wc_registry.specs.Inner.KindSets.{holds, size}
 use Rattle.wc_registry.specs.Inner.Required.{AreRequired, IsKnown}
 use Rattle.wc_registry.specs.Sound.{IsSound, NoneWith}
-use Rattle.wc_registry.proofs.KindLemmas.{any_at, any_from, cons_cases, first_there, has_there, later_there, none_there, one_fails, requires_at, requires_from, requires_through, there_has}
+use Rattle.wc_registry.proofs.KindLemmas.{any_at, any_from, cons_cases, first_there, has_there, later_there, none_there, one_fails, requires_at, requires_through, there_has}
 use Rattle.wc_registry.proofs.SetLemmas.{size_lt}
 
 -- how many elements pass a test
@@ -41,8 +40,8 @@ count_lt : {X : Type 0} (p q : X → Bool) (xs : List X) (y : X) → ((x : X) �
 count_lt p q [] y within there fails passes = absurd (none_there y there)
 count_lt {X} p q (x ∷ xs) y within there fails passes =
     ⊎_elim (λ (here : x ≡ y). omega (arith, count_cons p x xs, count_cons q x xs, count_more (p x) (q x) (ap p here ∙ fails) (ap q here ∙ passes), count_le p q xs within))
-      (λ (later : Contains xs y). omega (arith, count_cons p x xs, count_cons q x xs, count_head (p x) (q x) (within x), count_lt p q xs y within later fails passes))
-      (cons_cases x xs y there)
+    (λ (later : Contains xs y). omega (arith, count_cons p x xs, count_cons q x xs, count_head (p x) (q x) (within x), count_lt p q xs y within later fails passes))
+    (cons_cases x xs y there)
 
 count_none : {X : Type 0} (p : X → Bool) (xs : List X) → list_any p xs ≡ false → count_by p xs ≡ 0
 count_none p [] fails = refl
@@ -74,21 +73,25 @@ IsNext ds placed None = (d : Describe) → Contains ds d → is_available placed
 IsNext ds placed (Some k) = ((d : Describe) × Contains ds d × (d.provides ≡ k) × (is_available placed d ≡ true)) × ((d : Describe) → Contains ds d → is_available placed d ≡ true → k ≤ d.provides)
 
 less_case : (d : Describe) (ds : List Describe) (placed : List ℕ) (m : ℕ) (less : Bool) → nat_lt d.provides m ≡ less → is_available placed d ≡ true → IsNext ds placed (Some m) → IsNext (d ∷ ds) placed (if less then Some d.provides else Some m)
-less_case d ds placed m true less is next =
-    ((d, first_there d ds, refl, is),
-      λ e there available. ⊎_elim (λ (same : d ≡ e). omega (arith, ap (λ x. x.provides) same)) (λ (later : Contains ds e). omega (arith, ltb-true d.provides m less, next.1 e later available)) (cons_cases d ds e there))
-less_case d ds placed m false less is next =
-    (((next.0).0, later_there d (next.0).0 ds (next.0).1, (next.0).2, (next.0).3),
-      λ e there available. ⊎_elim (λ (same : d ≡ e). omega (arith, ltb-false d.provides m less, ap (λ x. x.provides) same)) (λ (later : Contains ds e). next.1 e later available) (cons_cases d ds e there))
+less_case d ds placed m true less is next = (
+  (d, first_there d ds, refl, is),
+  λ e there available. ⊎_elim (λ (same : d ≡ e). omega (arith, ap (λ x. x.provides) same)) (λ (later : Contains ds e). omega (arith, ltb-true d.provides m less, next.1 e later available)) (cons_cases d ds e there),
+)
+less_case d ds placed m false less is next = (
+  ((next.0).0, later_there d (next.0).0 ds (next.0).1, (next.0).2, (next.0).3),
+  λ e there available. ⊎_elim (λ (same : d ≡ e). omega (arith, ltb-false d.provides m less, ap (λ x. x.provides) same)) (λ (later : Contains ds e). next.1 e later available) (cons_cases d ds e there),
+)
 
 next_case : (d : Describe) (ds : List Describe) (placed : List ℕ) (available : Bool) → is_available placed d ≡ available → (rest : Option ℕ) → IsNext ds placed rest → IsNext (d ∷ ds) placed (if available then lesser d.provides rest else rest)
 next_case d ds placed false is None next = λ e there. ⊎_elim (λ (same : d ≡ e). ap (λ x. is_available placed x) (sym same) ∙ is) (λ (later : Contains ds e). next e later) (cons_cases d ds e there)
-next_case d ds placed false is (Some m) next =
-    (((next.0).0, later_there d (next.0).0 ds (next.0).1, (next.0).2, (next.0).3),
-      λ e there available. ⊎_elim (λ (same : d ≡ e). absurd (false≢true (sym is ∙ ap (λ x. is_available placed x) same ∙ available))) (λ (later : Contains ds e). next.1 e later available) (cons_cases d ds e there))
-next_case d ds placed true is None next =
-    ((d, first_there d ds, refl, is),
-      λ e there available. ⊎_elim (λ (same : d ≡ e). omega (arith, ap (λ x. x.provides) same)) (λ (later : Contains ds e). absurd (false≢true (sym (next e later) ∙ available))) (cons_cases d ds e there))
+next_case d ds placed false is (Some m) next = (
+  ((next.0).0, later_there d (next.0).0 ds (next.0).1, (next.0).2, (next.0).3),
+  λ e there available. ⊎_elim (λ (same : d ≡ e). absurd (false≢true (sym is ∙ ap (λ x. is_available placed x) same ∙ available))) (λ (later : Contains ds e). next.1 e later available) (cons_cases d ds e there),
+)
+next_case d ds placed true is None next = (
+  (d, first_there d ds, refl, is),
+  λ e there available. ⊎_elim (λ (same : d ≡ e). omega (arith, ap (λ x. x.provides) same)) (λ (later : Contains ds e). absurd (false≢true (sym (next e later) ∙ available))) (cons_cases d ds e there),
+)
 next_case d ds placed true is (Some m) next = less_case d ds placed m (nat_lt d.provides m) refl is next
 
 next_is : (ds : List Describe) (placed : List ℕ) → IsNext ds placed (next_available ds placed)
@@ -146,11 +149,11 @@ module _ (kinds : List Describe) (sound : IsSound kinds) where
         record {
           once = λ i j m at other. ⊎_elim
               (λ (left : slice_get placed i ≡ Some m). ⊎_elim (λ (also : slice_get placed j ≡ Some m). known.once i j m left also)
-                (λ (last : (j ≡ length placed) × (k ≡ m)). absurd (unplaced (contains_from_get placed i k (left ∙ ap Some (sym last.1)))))
-                (get_push_cases placed k j m other))
+              (λ (last : (j ≡ length placed) × (k ≡ m)). absurd (unplaced (contains_from_get placed i k (left ∙ ap Some (sym last.1)))))
+              (get_push_cases placed k j m other))
               (λ (last : (i ≡ length placed) × (k ≡ m)). ⊎_elim (λ (left : slice_get placed j ≡ Some m). absurd (unplaced (contains_from_get placed j k (left ∙ ap Some (sym last.1)))))
-                (λ (also : (j ≡ length placed) × (k ≡ m)). last.0 ∙ sym also.0)
-                (get_push_cases placed k j m other))
+              (λ (also : (j ≡ length placed) × (k ≡ m)). last.0 ∙ sym also.0)
+              (get_push_cases placed k j m other))
               (get_push_cases placed k i m at);
           provided = λ m there. ⊎_elim (λ (before : Contains placed m). known.provided m before)
               (λ (last : k ≡ m). ((next.0).0, (next.0).1, (next.0).2 ∙ last))
@@ -184,8 +187,8 @@ module _ (kinds : List Describe) (sound : IsSound kinds) where
       let parts = and_parts (not (has_kind d.provides placed)) (has_all d.requires_ placed) (next.0).3 in
       let has : has_kind d.provides (placed ++ k ∷ []) ≡ true = has_more d.provides k placed ∙ or_right (has_kind d.provides placed) ((k == d.provides) || false) (or_left (k == d.provides) false (eq-eqb k d.provides (sym (next.0).2))) in
       count_lt (λ e. not (has_kind e.provides (placed ++ k ∷ []))) (λ e. not (has_kind e.provides placed)) kinds d
-        (λ e fresh. not_from_false (has_kind e.provides placed) ((or_parts (has_kind e.provides placed) ((k == e.provides) || false) (sym (has_more e.provides k placed) ∙ not-true (has_kind e.provides (placed ++ k ∷ [])) fresh)).0))
-        (next.0).1 (not_from_true (has_kind d.provides (placed ++ k ∷ [])) has) parts.0
+      (λ e fresh. not_from_false (has_kind e.provides placed) ((or_parts (has_kind e.provides placed) ((k == e.provides) || false) (sym (has_more e.provides k placed) ∙ not-true (has_kind e.provides (placed ++ k ∷ [])) fresh)).0))
+      (next.0).1 (not_from_true (has_kind d.provides (placed ++ k ∷ [])) has) parts.0
 
   module _ (sets : List (List Bool)) (required : AreRequired kinds sets) (below : (k : ℕ) → IsProvided kinds k → k < 65) where
     abbrev row : ℕ → List Bool
@@ -212,11 +215,11 @@ module _ (kinds : List Describe) (sound : IsSound kinds) where
     none_left : (placed : List ℕ) → IsNext kinds placed None → left placed ≡ 0
     none_left placed none =
         ⊎_elim
-          (λ (some : list_any (λ d. not (has_kind d.provides placed)) kinds ≡ true).
-            let found : (d : Describe) × Contains kinds d × (not (has_kind d.provides placed) ≡ true) = any_at (λ d. not (has_kind d.provides placed)) kinds some in
-            absurd (stuck (size (row (found.0).provides) + 1) placed found.0 found.1 (omega arith) (not-true (has_kind (found.0).provides placed) found.2) none))
-          (λ (all : list_any (λ d. not (has_kind d.provides placed)) kinds ≡ false). count_none (λ d. not (has_kind d.provides placed)) kinds all)
-          (cases_Bool (list_any (λ d. not (has_kind d.provides placed)) kinds))
+        (λ (some : list_any (λ d. not (has_kind d.provides placed)) kinds ≡ true).
+        let found : (d : Describe) × Contains kinds d × (not (has_kind d.provides placed) ≡ true) = any_at (λ d. not (has_kind d.provides placed)) kinds some in
+        absurd (stuck (size (row (found.0).provides) + 1) placed found.0 found.1 (omega arith) (not-true (has_kind (found.0).provides placed) found.2) none))
+        (λ (all : list_any (λ d. not (has_kind d.provides placed)) kinds ≡ false). count_none (λ d. not (has_kind d.provides placed)) kinds all)
+        (cases_Bool (list_any (λ d. not (has_kind d.provides placed)) kinds))
 
     step_case : (n : ℕ) (placed : List ℕ) (next : Option ℕ) → IsNext kinds placed next → IsPlaced placed → left placed ≤ length kinds - n → IsPlaced (placed_next placed next) × (left (placed_next placed next) ≤ length kinds - suc n)
     step_case n placed None next known few = (known, omega (arith, none_left placed next))
@@ -239,8 +242,8 @@ module _ (kinds : List Describe) (sound : IsSound kinds) where
         placed_each : (k : ℕ) → IsProvided kinds k → left (order_of kinds) ≤ length kinds - length kinds → has_kind k (order_of kinds) ≡ true
         placed_each k (d, there, is) few =
             ⊎_elim (λ (has : has_kind d.provides (order_of kinds) ≡ true). ap (λ j. has_kind j (order_of kinds)) (sym is) ∙ has)
-              (λ (fresh : has_kind d.provides (order_of kinds) ≡ false). let counts : 1 ≤ left (order_of kinds) = one_counts (λ e. not (has_kind e.provides (order_of kinds))) kinds d there (not_from_false (has_kind d.provides (order_of kinds)) fresh) in absurd (omega arith))
-              (cases_Bool (has_kind d.provides (order_of kinds)))
+            (λ (fresh : has_kind d.provides (order_of kinds) ≡ false). let counts : 1 ≤ left (order_of kinds) = one_counts (λ e. not (has_kind e.provides (order_of kinds))) kinds d there (not_from_false (has_kind d.provides (order_of kinds)) fresh) in absurd (omega arith))
+            (cases_Bool (has_kind d.provides (order_of kinds)))
 
 pub known_is : (kinds : List Describe) (order : List ℕ) (sets : List (List Bool)) → NoneWith (IsDoubled kinds) → NoneWith (IsMissing kinds) → NoneWith (IsCyclic kinds) → ((k : ℕ) → IsProvided kinds k → k < 65) → AreRequired kinds sets → order ≡ order_of kinds → IsKnown kinds order sets
 known_is kinds order sets single complete acyclic below required listed =

@@ -1,8 +1,8 @@
 -- The search for all kinds that a kind requires: what is found is required, and where nothing is open, all is found.
-use Rattle.std.proofs.Common.{ℕ, ◌≡◌, ◌<◌, ◌||◌, ◌&&◌, Bool, true, false, not, ⊎_elim, List, [], length, sym, ap, subst, ◌∙◌}
+use Rattle.std.proofs.Common.{ℕ, ◌≡◌, ◌||◌, Bool, true, false, not, ⊎_elim, List, sym, ap, subst, ◌∙◌}
 use Rattle.std.specs.Prelude.{◌↔◌}
 use Rattle.std.specs.List.{Contains, list_all}
-use Rattle.std.proofs.lemmas.Bool.{and_cases, and_parts, false≢true, not-false, or_cases, or_left, or_right, true≢false}
+use Rattle.std.proofs.lemmas.Bool.{and_cases, and_parts, false≢true, not-false, or_cases, or_left, or_right}
 use Rattle.wc_model.specs.declared.kinds.Describe.{Describe}
 use Rattle.wc_model.specs.Workspace.Closures.{has_kind, requires_of}
 use Rattle.wc_model.specs.Workspace.Registry.{IsDoubled, Requires, directly, through}
@@ -36,8 +36,8 @@ module _ (kinds : List Describe) (number : ℕ) where
       let from : (d : Describe) × Contains kinds d × (d.provides ≡ i) × Contains d.requires_ j = requires_from kinds i j there in
       let held : holds found (from.0).provides ≡ true = ap (λ n. holds found n) from.2 ∙ all_found found known closed way in
       ⊎_elim (λ (unheld : holds found (from.0).provides ≡ false). absurd (false≢true (sym unheld ∙ held)))
-        (λ (all : not (list_all (λ k. holds found k) (from.0).requires_) ≡ false). all_at (λ k. holds found k) (from.0).requires_ j (not-false (list_all (λ k. holds found k) (from.0).requires_) all) from.3)
-        (and_cases (holds found (from.0).provides) (not (list_all (λ k. holds found k) (from.0).requires_)) (closed from.0 from.1))
+      (λ (all : not (list_all (λ k. holds found k) (from.0).requires_) ≡ false). all_at (λ k. holds found k) (from.0).requires_ j (not-false (list_all (λ k. holds found k) (from.0).requires_) all) from.3)
+      (and_cases (holds found (from.0).provides) (not (list_all (λ k. holds found k) (from.0).requires_)) (closed from.0 from.1))
 
   pub finding_ends : (found : List Bool) → IsFinding kinds number found → ((d : Describe) → Contains kinds d → is_open found d ≡ false) → (k : ℕ) → (holds found k ≡ true) ↔ Requires kinds number k
   finding_ends found known closed k = (known.sound k, λ way. all_found found known closed way)

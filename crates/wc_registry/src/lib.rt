@@ -12,5 +12,5 @@ pub use faults::RegistryFault;
 pub use registries::Registry;
 pub use wc_model::{Describe, Kind, Part};
 
-
-
+#[cfg(test)]
+mod tests;

@@ -1,4 +1,4 @@
-use Rattle.std.proofs.Common.{List, Bool, ℕ, ◌≡◌, ◌<◌, true, [], ◌∷◌, ◌++◌, refl, take, sym, subst, ap, ◌∙◌, arith}
+use Rattle.std.proofs.Common.{List, Bool, ◌≡◌, ◌<◌, [], ◌∷◌, ◌++◌, refl, take, sym, subst, ap, ◌∙◌, arith}
 use Rattle.std.specs.List.{slice_index_or}
 use Rattle.std.proofs.lemmas.List.{take_all}
 use Rattle.wc_model.specs.declared.kinds.Describe.{Describe}
@@ -28,8 +28,9 @@ loop-describe-preserved c =
     let held : c.has.result ≡ holds (slice_index_or c.args.sets.now d.provides []) d.provides = c.has.ensures ∙ ap (λ (set : List Bool). holds set d.provides) row in
     let of_row = c.requires.sets.are d.provides d.provides less in
     subst (λ (ds : List Describe). AreCyclic list ds c.if-has.cyclic) (sym (one_more list l.describe-index d c.loop-describe-test.true c.describe-item.is)) (elim c.if-has.branch [
-      then-has w ↦ subst (λ (marks : List Bool). AreCyclic list (take l.describe-index list ++ d ∷ []) marks) (sym w.cyclic-is) (cyclic_more list (take l.describe-index list) d l.cyclic w.add.new.self (of_row.0 (sym held ∙ w.if-has.true)) w.add.ensures.adds l.invariant)
-      | else-has w ↦ subst (λ (marks : List Bool). AreCyclic list (take l.describe-index list ++ d ∷ []) marks) (sym w.cyclic-is) (cyclic_same list (take l.describe-index list) d l.cyclic (λ again. false≢true (sym (sym held ∙ w.if-has.false) ∙ of_row.1 again)) l.invariant) ])
+      | then-has w ↦ subst (λ (marks : List Bool). AreCyclic list (take l.describe-index list ++ d ∷ []) marks) (sym w.cyclic-is) (cyclic_more list (take l.describe-index list) d l.cyclic w.add.new.self (of_row.0 (sym held ∙ w.if-has.true)) w.add.ensures.adds l.invariant)
+      | else-has w ↦ subst (λ (marks : List Bool). AreCyclic list (take l.describe-index list ++ d ∷ []) marks) (sym w.cyclic-is) (cyclic_same list (take l.describe-index list) d l.cyclic (λ again. false≢true (sym (sym held ∙ w.if-has.false) ∙ of_row.1 again)) l.invariant)
+    ])
 
 pub returns : goal.returns
 returns c = cyclic_all c.args.list.now c.loop-describe.cyclic (subst (λ (ds : List Describe). AreCyclic c.args.list.now ds c.loop-describe.cyclic) (take_all c.loop-describe.describe-index c.args.list.now (omega arith)) c.loop-describe.invariant)

@@ -1,4 +1,4 @@
-use Rattle.std.proofs.Common.{List, Bool, [], ◌∷◌, ◌++◌, take, sym, subst, ap, ◌∙◌, arith}
+use Rattle.std.proofs.Common.{List, Bool, [], ◌∷◌, ◌++◌, take, sym, subst, ◌∙◌, arith}
 use Rattle.std.proofs.lemmas.List.{take_all}
 use Rattle.wc_model.specs.declared.kinds.Describe.{Describe}
 use Rattle.wc_registry.specs.Inner.Required.{AreDoubled, AreProvided}
@@ -18,8 +18,9 @@ loop-describe-preserved c =
     record {
       are = subst (λ (es : List Describe). AreProvided es c.add-in-loop-describe.new.self) more (provided_more ds d l.provided c.add-in-loop-describe.new.self c.add-in-loop-describe.ensures.adds l.invariant.are);
       doubled = subst (λ (es : List Describe). AreDoubled es c.if-has.doubled) more (elim c.if-has.branch [
-        then-has w ↦ subst (λ (marks : List Bool). AreDoubled (take c.loop-describe.describe-index c.args.list.now ++ c.describe-item.result ∷ []) marks) (sym w.doubled-is) (doubled_more (take c.loop-describe.describe-index c.args.list.now) c.describe-item.result c.loop-describe.provided c.loop-describe.doubled w.add.new.self c.loop-describe.invariant.are (sym c.has.ensures ∙ w.if-has.true) w.add.ensures.adds c.loop-describe.invariant.doubled)
-        | else-has w ↦ subst (λ (marks : List Bool). AreDoubled (take c.loop-describe.describe-index c.args.list.now ++ c.describe-item.result ∷ []) marks) (sym w.doubled-is) (doubled_same (take c.loop-describe.describe-index c.args.list.now) c.describe-item.result c.loop-describe.provided c.loop-describe.doubled c.loop-describe.invariant.are (sym c.has.ensures ∙ w.if-has.false) c.loop-describe.invariant.doubled) ]);
+        | then-has w ↦ subst (λ (marks : List Bool). AreDoubled (take c.loop-describe.describe-index c.args.list.now ++ c.describe-item.result ∷ []) marks) (sym w.doubled-is) (doubled_more (take c.loop-describe.describe-index c.args.list.now) c.describe-item.result c.loop-describe.provided c.loop-describe.doubled w.add.new.self c.loop-describe.invariant.are (sym c.has.ensures ∙ w.if-has.true) w.add.ensures.adds c.loop-describe.invariant.doubled)
+        | else-has w ↦ subst (λ (marks : List Bool). AreDoubled (take c.loop-describe.describe-index c.args.list.now ++ c.describe-item.result ∷ []) marks) (sym w.doubled-is) (doubled_same (take c.loop-describe.describe-index c.args.list.now) c.describe-item.result c.loop-describe.provided c.loop-describe.doubled c.loop-describe.invariant.are (sym c.has.ensures ∙ w.if-has.false) c.loop-describe.invariant.doubled)
+      ]);
     }
 
 pub returns : goal.returns

@@ -16,7 +16,7 @@ loop-describe-preserved c =
     let list : List Describe = c.args.list.now in
     let adds = λ (k : ℕ). c.add_unless.ensures k ∙ ap (λ (ks : List ℕ). (has_kind k ks && not (holds c.provided-provided.result k)) || holds c.loop-describe.missing k) c.items.ensures in
     subst (λ (ds : List Describe). AreMissing list ds c.add_unless.new.self) (sym (one_more list l.describe-index c.describe-item.result c.loop-describe-test.true c.describe-item.is))
-      (missing_more list c.provided-provided.result c.provided-provided.ensures.are (take l.describe-index list) c.describe-item.result l.missing c.add_unless.new.self adds l.invariant)
+    (missing_more list c.provided-provided.result c.provided-provided.ensures.are (take l.describe-index list) c.describe-item.result l.missing c.add_unless.new.self adds l.invariant)
 
 pub returns-clause-missing : goal.returns-clause-missing
 returns-clause-missing c = subst (λ (ds : List Describe). AreMissing c.args.list.now ds c.loop-describe.missing) (take_all c.loop-describe.describe-index c.args.list.now (omega arith)) c.loop-describe.invariant

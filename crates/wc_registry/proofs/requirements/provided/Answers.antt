@@ -1,4 +1,4 @@
-use Rattle.std.proofs.Common.{List, take, sym, subst, ap, ◌∙◌, arith}
+use Rattle.std.proofs.Common.{List, take, sym, subst, arith}
 use Rattle.std.proofs.lemmas.List.{take_all}
 use Rattle.wc_model.specs.declared.kinds.Describe.{Describe}
 use Rattle.wc_registry.specs.Inner.Required.{AreProvided}

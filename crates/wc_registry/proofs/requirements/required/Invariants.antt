@@ -1,4 +1,4 @@
-use Rattle.std.proofs.Common.{◌≡◌, ◌-◌, length}
+use Rattle.std.proofs.Common.{◌-◌}
 use Rattle.wc_registry.specs.Inner.KindSets.{size}
 use Rattle.wc_registry.specs.Inner.Required.{IsFinding}
 use Rattle.wc_registry.proofs.requirements.required.Given as goal

@@ -21,26 +21,28 @@ pub cyclic-requires-clause-below : goal.cyclic-requires-clause-below
 cyclic-requires-clause-below c = subst (λ (ds : List Describe). (k : ℕ) → IsProvided ds k → k < 65) (c.deref-2.ensures.value ∙ sym c.deref-4.ensures.value) c.missing.ensures.below
 
 pub returns-in-Some-least-2 : goal.returns-in-Some-least-2
-returns-in-Some-least-2 c =
-    (fault_none IsDoubled c.deref.result.now c.args.list.items c.deref.ensures.value c.doubled.result c.doubled.ensures c.least.result c.least.ensures c.in_default.is,
-      fault_none IsMissing c.deref-2.result.now c.args.list.items c.deref-2.ensures.value c.missing.result c.missing.ensures.missing c.least-2.result c.least-2.ensures c.in_default-least.is,
-      fault_least IsCyclic c.deref-4.result.now c.args.list.items c.deref-4.ensures.value c.cyclic.result c.cyclic.ensures c.least-3.result c.least-3.ensures c.in-Some-least-2.kind c.in-Some-least-2.is)
+returns-in-Some-least-2 c = (
+  fault_none IsDoubled c.deref.result.now c.args.list.items c.deref.ensures.value c.doubled.result c.doubled.ensures c.least.result c.least.ensures c.in_default.is,
+  fault_none IsMissing c.deref-2.result.now c.args.list.items c.deref-2.ensures.value c.missing.result c.missing.ensures.missing c.least-2.result c.least-2.ensures c.in_default-least.is,
+  fault_least IsCyclic c.deref-4.result.now c.args.list.items c.deref-4.ensures.value c.cyclic.result c.cyclic.ensures c.least-3.result c.least-3.ensures c.in-Some-least-2.kind c.in-Some-least-2.is,
+)
 
 pub invariant_of-result : goal.invariant_of-result
 invariant_of-result c =
     known_is c.args.list.items c.in_ok-order.order.items c.in_ok-required.required.items
-      (fault_none IsDoubled c.deref.result.now c.args.list.items c.deref.ensures.value c.doubled.result c.doubled.ensures c.least.result c.least.ensures c.in_default.is)
-      (fault_none IsMissing c.deref-2.result.now c.args.list.items c.deref-2.ensures.value c.missing.result c.missing.ensures.missing c.least-2.result c.least-2.ensures c.in_default-least.is)
-      (fault_none IsCyclic c.deref-4.result.now c.args.list.items c.deref-4.ensures.value c.cyclic.result c.cyclic.ensures c.least-3.result c.least-3.ensures c.in_default-least-2.is)
-      (subst (λ (ds : List Describe). (k : ℕ) → IsProvided ds k → k < 65) c.deref-2.ensures.value c.missing.ensures.below)
-      (subst (λ (ds : List Describe). AreRequired ds c.in_ok-required.required.items) c.deref-3.ensures.value c.in_ok-required.ensures)
-      (c.in_ok-order.ensures ∙ ap order_of c.deref-6.ensures.value)
+    (fault_none IsDoubled c.deref.result.now c.args.list.items c.deref.ensures.value c.doubled.result c.doubled.ensures c.least.result c.least.ensures c.in_default.is)
+    (fault_none IsMissing c.deref-2.result.now c.args.list.items c.deref-2.ensures.value c.missing.result c.missing.ensures.missing c.least-2.result c.least-2.ensures c.in_default-least.is)
+    (fault_none IsCyclic c.deref-4.result.now c.args.list.items c.deref-4.ensures.value c.cyclic.result c.cyclic.ensures c.least-3.result c.least-3.ensures c.in_default-least-2.is)
+    (subst (λ (ds : List Describe). (k : ℕ) → IsProvided ds k → k < 65) c.deref-2.ensures.value c.missing.ensures.below)
+    (subst (λ (ds : List Describe). AreRequired ds c.in_ok-required.required.items) c.deref-3.ensures.value c.in_ok-required.ensures)
+    (c.in_ok-order.ensures ∙ ap order_of c.deref-6.ensures.value)
 
 pub returns : goal.returns
-returns c =
-    (refl,
-      record {
-        single = fault_none IsDoubled c.deref.result.now c.args.list.items c.deref.ensures.value c.doubled.result c.doubled.ensures c.least.result c.least.ensures c.in_default.is;
-        complete = fault_none IsMissing c.deref-2.result.now c.args.list.items c.deref-2.ensures.value c.missing.result c.missing.ensures.missing c.least-2.result c.least-2.ensures c.in_default-least.is;
-        acyclic = fault_none IsCyclic c.deref-4.result.now c.args.list.items c.deref-4.ensures.value c.cyclic.result c.cyclic.ensures c.least-3.result c.least-3.ensures c.in_default-least-2.is;
-      })
+returns c = (
+  refl,
+  record {
+    single = fault_none IsDoubled c.deref.result.now c.args.list.items c.deref.ensures.value c.doubled.result c.doubled.ensures c.least.result c.least.ensures c.in_default.is;
+    complete = fault_none IsMissing c.deref-2.result.now c.args.list.items c.deref-2.ensures.value c.missing.result c.missing.ensures.missing c.least-2.result c.least-2.ensures c.in_default-least.is;
+    acyclic = fault_none IsCyclic c.deref-4.result.now c.args.list.items c.deref-4.ensures.value c.cyclic.result c.cyclic.ensures c.least-3.result c.least-3.ensures c.in_default-least-2.is;
+  },
+)
