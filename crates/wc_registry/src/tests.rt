@@ -140,12 +140,8 @@ fn each_kind_comes_after_what_it_requires_the_least_first(rt: HostRuntime) -> Re
     Ok(())
 }
 
-#[test]
-fn a_closure_has_the_parts_of_all_that_is_required(rt: HostRuntime) -> Result<(), Fail> {
-    // of each kind from 1 on: Steer, Loops, Limits, Cache, Cycles
-    let want = [
-        "S", "S", "SO", "SA", "SA", "SA", "SA", "SAY", "SOLAY", "SOLAY", "SOLAY", "",
-    ];
+// a letter for each part of the closure of a kind
+fn closure(alloc: Global, registry: &Registry, number: u8) -> Result<Vec<u8>, AllocError> {
     let parts = [
         (b'S', Part::Steer),
         (b'O', Part::Loops),
@@ -153,20 +149,43 @@ fn a_closure_has_the_parts_of_all_that_is_required(rt: HostRuntime) -> Result<()
         (b'A', Part::Cache),
         (b'Y', Part::Cycles),
     ];
-    let mut looked = 0;
-    if let Ok(registry) = registry(rt.alloc(), &FEATURES) {
-        for (number, closure) in (1..).zip(want.iter()) {
-            if let Some(kind) = Kind::new(number) {
-                for (letter, part) in parts {
-                    assert_eq!(rt;
-                        registry.reads(kind, part),
-                        closure.as_bytes().contains(&letter)
-                    );
-                    looked += 1;
-                }
+    let mut letters = Vec::new(alloc);
+    if let Some(kind) = Kind::new(number) {
+        for (letter, part) in parts {
+            if registry.reads(kind, part) {
+                letters.push(letter)?;
             }
         }
     }
-    assert_eq!(rt; looked, 60);
+    Ok(letters)
+}
+
+#[test]
+fn a_closure_has_the_parts_of_all_that_is_required(rt: HostRuntime) -> Result<(), Fail> {
+    let alloc = rt.alloc();
+    let rows = [
+        (1, "S"),
+        (2, "S"),
+        (3, "SO"),
+        (4, "SA"),
+        (5, "SA"),
+        (6, "SA"),
+        (7, "SA"),
+        (8, "SAY"),
+        (9, "SOLAY"),
+        (10, "SOLAY"),
+        (11, "SOLAY"),
+        (12, ""),
+    ];
+    let registry = registry(alloc, &FEATURES);
+    assert!(rt; registry.is_ok());
+    if let Ok(registry) = registry {
+        for (number, parts) in rows {
+            assert_eq!(rt;
+                closure(alloc, &registry, number)?.as_slice(),
+                parts.as_bytes()
+            );
+        }
+    }
     Ok(())
 }
