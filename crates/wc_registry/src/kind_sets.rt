@@ -1,7 +1,7 @@
-ghost use Rattle.std.specs.Prelude.{◌≡◌, ℕ, ◌==◌, ◌&&◌, ◌||◌, not, true, false, length};
+ghost use Rattle.std.specs.Prelude.{◌≡◌, ℕ, ◌==◌, ◌&&◌, not, true, false, length};
 ghost use Rattle.std.specs.List.{list_all};
 ghost use Rattle.wc_model.specs.Workspace.Closures.{has_kind};
-ghost use Rattle.wc_registry.specs.Inner.KindSets.{holds, IsLeastOf};
+ghost use Rattle.wc_registry.specs.Inner.KindSets.{Adds, IsLeastOf, holds};
 
 use std::marker::Model;
 use wc_model::Kind;
@@ -45,7 +45,7 @@ impl KindSet {
     }
 
     pub fn add(&mut self, kind: Kind)
-        ensures adds { (k : ℕ) → holds self.new k ≡ (kind == k || holds self.old k) }
+        ensures adds { Adds (λ k. kind == k) self.old self.new }
         ensures counted { length self.new ≡ 65 }
     {
         self.marks[kind.number() as usize] = true;
@@ -58,7 +58,7 @@ impl KindSet {
     }
 
     pub fn add_all(&mut self, kinds: &[Kind])
-        ensures adds { (k : ℕ) → holds self.new k ≡ (has_kind k kinds.now || holds self.old k) }
+        ensures adds { Adds (λ k. has_kind k kinds.now) self.old self.new }
         ensures counted { length self.new ≡ 65 }
     {
         let _marks = &self.marks;
@@ -69,7 +69,7 @@ impl KindSet {
 
     // Adds those of some kinds that another set doesn't have.
     pub fn add_unless(&mut self, kinds: &[Kind], other: &KindSet)
-        ensures { (k : ℕ) → holds self.new k ≡ ((has_kind k kinds.now && not (holds other.now k)) || holds self.old k) }
+        ensures { Adds (λ k. has_kind k kinds.now && not (holds other.now k)) self.old self.new }
     {
         for kind in kinds {
             if !other.has(*kind) {

@@ -1,9 +1,9 @@
-ghost use Rattle.std.specs.Prelude.{◌≡◌, ℕ, ◌<◌, ◌↔◌, ◌||◌, true, length, IfOk};
+ghost use Rattle.std.specs.Prelude.{◌≡◌, ℕ, ◌<◌, ◌↔◌, true, length, IfOk};
 ghost use Rattle.std.specs.List.{find};
 ghost use Rattle.std.specs.Option.{option_map};
 ghost use Rattle.wc_model.specs.Workspace.Closures.{describe_of, has_kind, requires_of};
 ghost use Rattle.wc_model.specs.Workspace.Registry.{IsCyclic, IsDoubled, IsMissing, IsProvided, Requires};
-ghost use Rattle.wc_registry.specs.Inner.KindSets.{holds, is_open};
+ghost use Rattle.wc_registry.specs.Inner.KindSets.{Adds, holds, is_open};
 ghost use Rattle.wc_registry.specs.Inner.Required.{AreProvided, AreRequired};
 ghost use Rattle.wc_registry.specs.Sound.{NoneWith};
 
@@ -76,7 +76,7 @@ fn required(list: &[Describe], number: u8) -> KindSet
 
 // The kinds that the kind of a number requires by its own description.
 fn add_direct(found: &mut KindSet, list: &[Describe], number: u8)
-    ensures { (k : ℕ) → holds found.new k ≡ (has_kind k (requires_of list.now number) || holds found.old k) }
+    ensures { Adds (λ k. has_kind k (requires_of list.now number)) found.old found.new }
 {
     if let Some(describe) = described(list, number) {
         found.add_all(describe.requires_.items());
