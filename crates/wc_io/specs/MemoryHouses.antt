@@ -1,7 +1,7 @@
 -- What a house in memory does beyond what every house does.
 use Rattle.std.specs.Prelude.{◌≡◌, ℕ, true, false, ◌⊎◌, List, [], map, None, Some, Result, Ok, Err, string_bytes}
 use Rattle.std.specs.List.{find}
-use Rattle.wc_io.specs.Memory.{File, emptied, failing_at, fails_at, is_at, seen}
+use Rattle.wc_io.specs.Memory.{File, emptied, failing_at, fails_at, filled, is_at, seen}
 use Rattle.wc_io.specs.Rows.{Row, path_of, row_of}
 use Rattle.wc_io.specs.declared.houses.HouseError.{HouseError}
 use Rattle.wc_io.specs.declared.houses.HouseError.TheVariants.{Failed, Memory}
@@ -15,9 +15,9 @@ files_of h = map seen h.files.items
 abbrev pub rows_of : MemoryHouse → List Row
 rows_of h = map row_of h.opened.items
 
--- the path of the row of a place
-abbrev pub row_path : MemoryHouse → ℕ → List ℕ
-row_path h place = path_of place (rows_of h)
+-- the files after a sink came back: that of its row's path is what it held
+abbrev pub filled_by : MemoryHouse → MemorySink → List File
+filled_by h k = filled (path_of k.place (rows_of h)) k.held.items (files_of h)
 
 -- a source has its file's bytes, its portions and the calls that fail
 pub record IsSourceOf (file : File) (source : MemorySource) : Type 0 where

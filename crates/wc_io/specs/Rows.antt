@@ -53,8 +53,8 @@ abbrev pub MarksRow : ℕ → ℕ → List Row → List Row → Type 0
 MarksRow place faults old new = new ≡ marked (place - 1) faults old
 
 -- a source or sink came back, by its place and its count of faults
-abbrev pub MarksRowOf : {T : Type 0} → (T → ℕ) → (T → ℕ) → T → List Row → List Row → Type 0
-MarksRowOf place faults given old new = MarksRow (place given) (faults given) old new
+abbrev pub Marks : {T : Type 0} → (T → ℕ) → (T → ℕ) → T → List Row → List Row → Type 0
+Marks place faults given old new = MarksRow (place given) (faults given) old new
 
 -- the path of the row of that place
 abbrev pub path_of : ℕ → List Row → List ℕ

@@ -35,8 +35,8 @@ abbrev pub KeepsOthers : List ℕ → (List ℕ → Option (List ℕ)) → (List
 KeepsOthers path old new = (p : List ℕ) → p ≢ path → new p ≡ old p
 
 -- no file has changed but that of the row of a place
-abbrev pub KeepsOthersAt : ℕ → List Row → (List ℕ → Option (List ℕ)) → (List ℕ → Option (List ℕ)) → Type 0
-KeepsOthersAt place rows old new = KeepsOthers (path_of place rows) old new
+abbrev pub KeepsRest : ℕ → List Row → (List ℕ → Option (List ℕ)) → (List ℕ → Option (List ℕ)) → Type 0
+KeepsRest place rows old new = KeepsOthers (path_of place rows) old new
 
 -- The places of the sources and sinks that are out, as a fact on lists of them: it holds of the list that it is, in any house that
 -- knows it. A new place comes to the front.

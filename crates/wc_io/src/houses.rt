@@ -1,6 +1,6 @@
 ghost use Rattle.std.specs.Prelude.{◌≡◌, ℕ, Bool, List, [], Option, length, IfOk, OnOk, OnErr, IfSome, true, false};
-ghost use Rattle.wc_io.specs.Rows.{Row, AddsRow, IsRowOf, MarksRowOf, path_of};
-ghost use Rattle.wc_io.specs.Telling.{IsThere, Gives, IsFilled, OpensEmpty, Empties, KeepsOthers, KeepsOthersAt, Brings, ComesBack};
+ghost use Rattle.wc_io.specs.Rows.{Row, AddsRow, IsRowOf, Marks, path_of};
+ghost use Rattle.wc_io.specs.Telling.{IsThere, Gives, IsFilled, OpensEmpty, Empties, KeepsOthers, KeepsRest, Brings, ComesBack};
 
 use crate::{Sink, Source};
 use std::alloc::AllocError;
@@ -61,7 +61,7 @@ pub trait House {
     /// Takes a source back. Its row is failed from then on where the source counted a fault.
     fn return_source(&mut self, source: Self::Source)
         requires { IsRowOf (Self.Source.place source) false (opened self.old) }
-        ensures rows { MarksRowOf Self.Source.place Self.Source.faults source (opened self.old) (opened self.new) }
+        ensures rows { Marks Self.Source.place Self.Source.faults source (opened self.old) (opened self.new) }
         ensures files { (p : List ℕ) → file self.new p ≡ file self.old p }
         ensures tells { tells self.new ≡ tells self.old }
         ensures out { ComesBack (Self.Source.place source) (are_out self.old) (are_out self.new) };
@@ -70,10 +70,10 @@ pub trait House {
     /// sink counted a fault.
     fn return_sink(&mut self, sink: Self::Sink)
         requires { IsRowOf (Self.Sink.place sink) true (opened self.old) }
-        ensures rows { MarksRowOf Self.Sink.place Self.Sink.faults sink (opened self.old) (opened self.new) }
+        ensures rows { Marks Self.Sink.place Self.Sink.faults sink (opened self.old) (opened self.new) }
         ensures file { IsFilled (file self.old (path_of (Self.Sink.place sink) (opened self.old)))
             (Self.Sink.held sink) (file self.new (path_of (Self.Sink.place sink) (opened self.old))) }
-        ensures others { KeepsOthersAt (Self.Sink.place sink) (opened self.old) (file self.old) (file self.new) }
+        ensures others { KeepsRest (Self.Sink.place sink) (opened self.old) (file self.old) (file self.new) }
         ensures tells { tells self.new ≡ tells self.old }
         ensures out { ComesBack (Self.Sink.place sink) (are_out self.old) (are_out self.new) };
 }

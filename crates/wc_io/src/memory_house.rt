@@ -1,7 +1,7 @@
 ghost use Rattle.std.specs.Prelude.{◌≡◌, map, length, true, IfOk, OnOk, Some, IfSome};
 ghost use Rattle.wc_io.specs.Causes.{counted};
 ghost use Rattle.std.specs.Prelude.{[], false};
-ghost use Rattle.wc_io.specs.Memory.{file_at, filled, seen};
+ghost use Rattle.wc_io.specs.Memory.{file_at, seen};
 ghost use Rattle.wc_io.specs.MemoryHouses.{IsSourceOf};
 ghost use Rattle.wc_io.specs.Rows.{row_of, AddsRow, IsRowOf, MarksRow, path_of};
 ghost use Rattle.wc_io.specs.Telling.{IsThere, Gives, IsEmptied, IsFilled, KeepsOthers};
@@ -37,7 +37,7 @@ fn source_of(file: &MemoryFile, place: u64) -> Result<MemorySource, AllocError>
 }
 
 impl House for MemoryHouse {
-    ghost use Rattle.wc_io.specs.MemoryHouses.{files_of, row_path, rows_of, OpensSource, OpensSink};
+    ghost use Rattle.wc_io.specs.MemoryHouses.{files_of, filled_by, rows_of, OpensSource, OpensSink};
 
     type Source = MemorySource;
 
@@ -120,7 +120,7 @@ impl House for MemoryHouse {
     fn return_sink(&mut self, sink: MemorySink)
         requires { IsRowOf sink.place true (rows_of self.old) }
         ensures rows { MarksRow sink.place sink.faults (rows_of self.old) (rows_of self.new) }
-        ensures filled { files_of self.new ≡ filled (row_path self.old sink.place) sink.held.items (files_of self.old) }
+        ensures filled { files_of self.new ≡ filled_by self.old sink }
         ensures file { IsFilled (file_at (files_of self.old) (path_of sink.place (rows_of self.old)))
             (Some sink.held.items) (file_at (files_of self.new) (path_of sink.place (rows_of self.old))) }
         ensures others { KeepsOthers (path_of sink.place (rows_of self.old))
