@@ -1,9 +1,10 @@
 ghost use Rattle.wc_io.specs.Adapted.{ReadsOf, WritesOf};
 ghost use Rattle.std.specs.Io.{ReadsAtMost, WritesAtMost};
+ghost use Rattle.std.specs.Io.KnownBytes.{Keeps};
 
 use std::io::{Read, Result, Write};
 
-/// A file of the system, of which nothing is told.
+/// A file of the system, which tells nothing by itself; its calls do what those of the file do.
 #[derive(Drop)]
 pub struct SystemFile<F: Read + Write> {
     pub file: F,
@@ -26,7 +27,9 @@ impl<F: Read + Write> Write for SystemFile<F> {
         self.file.write(piece)
     }
 
-    fn flush(&mut self) -> Result<()> {
+    fn flush(&mut self) -> Result<()>
+        ensures kept { Keeps (F.contents self.old.file) (F.contents self.new.file) }
+    {
         self.file.flush()
     }
 }
