@@ -83,12 +83,12 @@ better_is b c = ⊎_elim
 module _ (facts : List (ℕ × Fact)) (p : Position) where
   -- facts that offer nothing
   pub lower : (k m : ℕ) (best : Option Best) → IsBestFrom facts p k best → ((i : ℕ) (f : ℕ × Fact) → m ≤ i → i < k → slice_get facts i ≡ Some f → offered p f.1 ≡ None) → IsBestFrom facts p m best
-  lower k m None is none i f low at = ⊎_elim (λ (less : i < k). none i f low less at) (λ (high : k ≤ i). is i f high at) (cases_lt i k)
+  lower k m None is none = λ i f low at. ⊎_elim (λ (less : i < k). none i f low less at) (λ (high : k ≤ i). is i f high at) (cases_lt i k)
   lower k m (Some b) is none = (is.0, λ i f c low at offers. ⊎_elim (λ (less : i < k). absurd (none-some c (sym (none i f low less at) ∙ offers))) (λ (high : k ≤ i). is.1 i f c high at offers) (cases_lt i k))
 
   -- one more fact
   pub one_more : (j : ℕ) (f : ℕ × Fact) (best : Option Best) (offer : Option Best) → slice_get facts j ≡ Some f → offered p f.1 ≡ offer → IsBestFrom facts p (j + 1) best → IsBestFrom facts p j (best_of best offer)
-  one_more j f None None at is old i g low at_g = ⊎_elim (λ (same : i ≡ j). let one : f ≡ g = same_Some f g (sym at ∙ ap (slice_get facts) (sym same) ∙ at_g) in ap (λ (h : ℕ × Fact). offered p h.1) (sym one) ∙ is) (λ (other : i ≡ j → ⊥). old i g (omega arith) at_g) (cases_eq i j)
+  one_more j f None None at is old = λ i g low at_g. ⊎_elim (λ (same : i ≡ j). let one : f ≡ g = same_Some f g (sym at ∙ ap (slice_get facts) (sym same) ∙ at_g) in ap (λ (h : ℕ × Fact). offered p h.1) (sym one) ∙ is) (λ (other : i ≡ j → ⊥). old i g (omega arith) at_g) (cases_eq i j)
   one_more j f None (Some c) at is old = (
     (j, f, at, is),
     λ i g d low at_g offers. ⊎_elim

@@ -30,6 +30,10 @@ fits_nowhere n at within p is other = sym (ap (λ (b : Bool). b && calls_fit (re
 pub fits_there : (n at : ℕ) (within : List ℕ) (p : Position) → n ≡ p.pc → n ≡ at → fits at within p ≡ calls_fit (reverse within) p.calls
 fits_there n at within p is same = ap (λ (b : Bool). b && calls_fit (reverse within) p.calls) (eq-eqb p.pc at (sym is ∙ same))
 
+pub parent_is : (t : Bool) (o : Option ℕ) (j : ℕ) → (if t then o else None) ≡ Some j → o ≡ Some j
+parent_is true o j is = is
+parent_is false o j is = absurd (none-some j is)
+
 -- the innermost call of a call string, and the rest of it
 module _ (contexts : List Context) (k at : ℕ) (ats : List ℕ) (c : Context) (there : slice_get contexts k ≡ Some c) where
   pub fits_on : (j : ℕ) (calls : List Call) → (if c.returns == (at + 4) % 2 ^ 32 then c.parent else None) ≡ Some j → AreCalls contexts k calls → (outer : List Call) × AreCalls contexts j outer × (calls_fit (at ∷ ats) calls ≡ calls_fit ats outer)

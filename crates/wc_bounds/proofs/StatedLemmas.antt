@@ -1,5 +1,5 @@
 -- The loop facts by their address, and the best of those of one address.
-use Rattle.std.proofs.Common.{ℕ, ◌≡◌, ◌+◌, ◌<◌, ◌≤◌, ◌⊎◌, ⊎_elim, Bool, true, false, cond, List, [], ◌∷◌, ◌++◌, Option, None, Some, length, refl, sym, ap, subst, ◌∙◌, arith}
+use Rattle.std.proofs.Common.{ℕ, suc, ◌≡◌, ◌+◌, ◌<◌, ◌≤◌, ◌⊎◌, ⊎_elim, Bool, true, false, cond, List, [], ◌∷◌, ◌++◌, Option, None, Some, length, refl, sym, ap, subst, ◌∙◌, arith}
 use Rattle.std.specs.BTreeMap.{BTreeMap, Updates, get}
 use Rattle.std.specs.List.{slice_get}
 use Rattle.std.specs.Ordering.{is_eq, nat_cmp}
@@ -15,7 +15,7 @@ use Rattle.wc_model.proofs.Places.{get_push_cases}
 use Rattle.wc_bounds.specs.declared.best.Best.{Best}
 use Rattle.wc_bounds.specs.declared.stated.Stated.{Stated}
 use Rattle.wc_bounds.specs.Inner.Best.{offered, best_of}
-use Rattle.wc_bounds.specs.Inner.Stated.{loop_at, IsLoopAt, IsLatest, IsPut, IsStated, IsBestFrom}
+use Rattle.wc_bounds.specs.Inner.Stated.{loop_at, IsLoopAt, IsLatest, IsPut, IsStated, IsBestFrom, places_before}
 use Rattle.wc_bounds.proofs.BestLemmas.{states_at, offered_states, lower, one_more}
 
 other_key : (x y : ℕ) → (x ≡ y → ⊥) → is_eq (nat_cmp x y) ≡ false
@@ -32,7 +32,7 @@ module _ (facts : List (ℕ × Fact)) (k : ℕ) (f : ℕ × Fact) (there : slice
   address_is at (g, at_g, is) = ap (λ (x : ℕ × Fact). loop_at x.1) (same_Some f g (sym there ∙ at_g)) ∙ is
 
   still_latest : (at : ℕ) (o : Option ℕ) → (IsLoopAt facts k at → ⊥) → IsLatest facts at k o → IsLatest facts at (k + 1) o
-  still_latest at None other is i less of = ⊎_elim (λ (before : i < k). is i before of) (λ (now : k ≤ i). let same : i ≡ k = omega arith in other (subst (λ (n : ℕ). IsLoopAt facts n at) same of)) (cases_lt i k)
+  still_latest at None other is = λ i less of. ⊎_elim (λ (before : i < k). is i before of) (λ (now : k ≤ i). let same : i ≡ k = omega arith in other (subst (λ (n : ℕ). IsLoopAt facts n at) same of)) (cases_lt i k)
   still_latest at (Some j) other is = (omega (arith, is.0), is.1, λ i low less of. ⊎_elim (λ (before : i < k). is.2 i low before of) (λ (now : k ≤ i). let same : i ≡ k = omega arith in other (subst (λ (n : ℕ). IsLoopAt facts n at) same of)) (cases_lt i k))
 
   module _ (old new : Stated) (was : IsStated facts k old) where
@@ -93,3 +93,18 @@ module _ (facts : List (ℕ × Fact)) (p : Position) where
 
   pub best_last : (k : ℕ) (best : Option Best) → IsLatest facts p.pc k None → IsBestFrom facts p k best → IsBestFrom facts p 0 best
   best_last k best none is = lower facts p k 0 best is (λ i f low less at. nothing_offered i f at (none i less))
+
+-- each place comes before the last
+pub before_less : (facts : List (ℕ × Fact)) (at k : ℕ) (o : Option ℕ) → IsLatest facts at k o → places_before o ≤ k
+before_less facts at k None is = omega arith
+before_less facts at k (Some j) is = omega (arith, is.0)
+
+pub less_from : (a b i : ℕ) → a ≤ i → b ≡ suc i → a < b
+less_from a b i low is = omega arith
+
+pub none_from : (o : Option ℕ) → ((x : ℕ) → o ≡ Some x → ⊥) → o ≡ None
+none_from None never = refl
+none_from (Some x) never = absurd (never x refl)
+
+pub place_within : (facts : List (ℕ × Fact)) (at k j : ℕ) → IsLatest facts at k (Some j) → j < length facts
+place_within facts at k j is = slice_get_within facts j is.1.0 is.1.1

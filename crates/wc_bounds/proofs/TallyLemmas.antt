@@ -91,7 +91,7 @@ pub position_for : (graph : Graph) (nest : Nest) → HavePlaces graph nest → (
 position_for graph nest places i node at =
     let within : node.context < length graph.contexts = All-contains (λ (n : Node). n.context < length graph.contexts) graph.nodes node places.placed (contains_from_get graph.nodes i node at) in
     let calls = calls_for graph.contexts places.parents (node.context + 1) node.context (omega arith) within in
-    (record { calls = calls.0; pc = node.pc }, refl, calls.1)
+    (record { calls = calls.0; pc = node.pc }, (refl, calls.1))
 
 -- no head is counted yet
 pub tally_first : (graph : Graph) (nest : Nest) (facts : List Fact) (tally : Tally) → tally.of.items ≡ [] → tally.least ≡ None → IsTally graph nest facts 0 tally

@@ -1,7 +1,9 @@
-ghost use Rattle.std.specs.Prelude.{◌≡◌, ◌<◌, IfOk, length};
+ghost use Rattle.std.specs.Prelude.{◌≡◌, ◌<◌, IfOk, Some, length, slice_get};
+ghost use Rattle.std.specs.BTreeMap.{get};
+ghost use Rattle.std.specs.Ordering.{nat_cmp};
 ghost use Rattle.wc_model.specs.Program.Positions.{Position};
 ghost use Rattle.wc_bounds.specs.Inner.Best.{IsAt, ArePlaced};
-ghost use Rattle.wc_bounds.specs.Inner.Stated.{loop_at, IsAdded, IsPut, IsStated, IsBestFrom};
+ghost use Rattle.wc_bounds.specs.Inner.Stated.{loop_at, IsAdded, IsPut, IsStated, IsBestFrom, IsBestWith};
 
 use crate::best::{Best, with_fact};
 use std::alloc::{AllocError, Global};
@@ -43,6 +45,22 @@ fn address(fact: &Fact) -> Option<Addr>
     }
 }
 
+// The best with the fact at a place.
+fn with_place(
+    best: Option<Best>,
+    facts: &[(u64, Fact)],
+    index: usize,
+    contexts: &[Context],
+    node: &Node,
+) -> Option<Best>
+    requires inside { index < length facts.now }
+    requires known { node.now.context < length contexts.now }
+    requires parents { ArePlaced contexts.now }
+    ensures { (p : Position) → IsAt contexts.now node.now p → IsBestWith facts.now p index best result }
+{
+    with_fact(best, &facts[index].1, contexts, node)
+}
+
 impl Stated {
     fn add(&mut self, facts: &[(u64, Fact)], index: usize) -> Result<(), AllocError>
         requires { index < length facts.now }
@@ -73,11 +91,26 @@ impl Stated {
         ensures { (p : Position) → IsAt contexts.now node.now p → IsBestFrom facts.now p 0 result }
     {
         let mut best = None;
-        let mut place = self.last.get(&node.pc).copied();
+        let mut place = self.last_of(node.pc);
         while let Some(index) = place {
-            best = with_fact(best, &facts[index].1, contexts, node);
-            place = self.before[index];
+            let more = with_place(best, facts, index, contexts, node);
+            let earlier = self.before_of(index);
+            best = more;
+            place = earlier;
         }
         best
+    }
+
+    fn last_of(&self, at: Addr) -> Option<usize>
+        ensures { result ≡ get nat_cmp self.now.last at }
+    {
+        self.last.get(&at).copied()
+    }
+
+    fn before_of(&self, index: usize) -> Option<usize>
+        requires { index < length self.now.before.items }
+        ensures { slice_get self.now.before.items index ≡ Some result }
+    {
+        self.before[index]
     }
 }

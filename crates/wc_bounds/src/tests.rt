@@ -131,6 +131,9 @@ fn bounds_of(
     heads: &[(u32, Addr)],
     rows: &[Row],
 ) -> Result<Option<Result<Vec<u32>, Fault>>, AllocError> {
+    if heads.len() > 9 {
+        return Ok(None);
+    }
     let mut contexts = Vec::new(alloc);
     contexts.push(BOTTOM)?;
     contexts.push(called(0, 0x8008))?;

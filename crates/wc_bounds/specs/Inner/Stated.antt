@@ -7,7 +7,7 @@ use Rattle.wc_model.specs.declared.flow_facts.Fact.TheVariants.{Loop}
 use Rattle.wc_model.specs.Program.Positions.{Position}
 use Rattle.wc_bounds.specs.declared.best.Best.{Best}
 use Rattle.wc_bounds.specs.declared.stated.Stated.{Stated}
-use Rattle.wc_bounds.specs.Inner.Best.{offered}
+use Rattle.wc_bounds.specs.Inner.Best.{best_of, offered}
 
 -- the address of a fact that states a loop's bound
 abbrev pub loop_at : Fact → Option ℕ
@@ -39,6 +39,10 @@ module _ (facts : List (ℕ × Fact)) where
   IsBestFrom p k (Some b) =
       ((i : ℕ) × (f : ℕ × Fact) × (slice_get facts i ≡ Some f) × (offered p f.1 ≡ Some b))
       × ((i : ℕ) (f : ℕ × Fact) (c : Best) → k ≤ i → slice_get facts i ≡ Some f → offered p f.1 ≡ Some c → (c.depth < b.depth) ⊎ ((c.depth ≡ b.depth) × (b.bound ≤ c.bound)))
+
+  -- the best with the fact at a place
+  abbrev pub IsBestWith : Position → ℕ → Option Best → Option Best → Type 0
+  IsBestWith p k old new = (f : ℕ × Fact) × (slice_get facts k ≡ Some f) × (new ≡ best_of old (offered p f.1))
 
   -- one more fact is stated
   abbrev pub IsAdded : ℕ → Stated → Stated → Type 0
