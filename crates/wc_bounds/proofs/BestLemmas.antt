@@ -1,16 +1,16 @@
 -- The best of stated bounds, fact by fact.
-use Rattle.std.proofs.Common.{ℕ, zero, suc, ◌≡◌, ◌+◌, ◌<◌, ◌≤◌, ◌⊎◌, inl, inr, ⊎_elim, Bool, true, false, ◌&&◌, ◌==◌, nat_lt, lt-ltb, reverse, if◌then◌else◌, List, [], ◌∷◌, Option, None, Some, length, refl, sym, ap, subst, ◌∙◌, arith}
+use Rattle.std.proofs.Common.{ℕ, ◌≡◌, ◌+◌, ◌<◌, ◌≤◌, ◌⊎◌, inl, inr, ⊎_elim, Bool, true, false, ◌&&◌, ◌==◌, nat_lt, lt-ltb, reverse, List, Option, None, Some, length, refl, sym, ap, subst, ◌∙◌, arith}
 use Rattle.std.specs.List.{slice_get}
 use Rattle.std.proofs.lemmas.Bool.{cases_eq, cases_lt, le-ltb}
 use Rattle.std.proofs.lemmas.Bool.Decides.{eqb_tells}
-use Rattle.std.proofs.lemmas.Option.{none-some, same_Some, slice_get_within}
+use Rattle.std.proofs.lemmas.Option.{none-some, same_Some}
 use Rattle.wc_model.specs.declared.flow_facts.Fact.{Fact}
 use Rattle.wc_model.specs.declared.flow_facts.Fact.TheVariants.{Loop, Multibranch, Multicall, Noreturn, Checksum, Limit}
 use Rattle.wc_model.specs.Flow.Bounds.{StatesBound, calls_fit, fits}
 use Rattle.wc_model.specs.Program.Positions.{Position}
 use Rattle.wc_bounds.specs.declared.best.Best.{Best}
 use Rattle.wc_bounds.specs.Inner.Best.{offered, better, best_of}
-use Rattle.wc_bounds.specs.Inner.Stated.{loop_at, IsLoopAt, IsLatest, IsBestFrom}
+use Rattle.wc_bounds.specs.Inner.Stated.{loop_at, IsBestFrom}
 
 -- a fact that offers a bound states it
 pub states_offered : (p : Position) (d n : ℕ) (fact : Fact) → StatesBound p d n fact → offered p fact ≡ Some (record { depth = d; bound = n })

@@ -1,5 +1,5 @@
 -- The bounds of the heads, one by one.
-use Rattle.std.proofs.Common.{ℕ, zero, suc, ◌≡◌, ◌+◌, ◌<◌, ◌≤◌, ◌⊎◌, inl, inr, ⊎_elim, Bool, true, false, List, [], ◌∷◌, ◌++◌, Option, None, Some, IfSome, lt-ltb, map, length, refl, sym, ap, subst, ◌∙◌, arith}
+use Rattle.std.proofs.Common.{ℕ, zero, suc, ◌≡◌, ◌+◌, ◌<◌, ◌≤◌, ⊎_elim, List, [], ◌∷◌, ◌++◌, Option, None, Some, IfSome, lt-ltb, map, length, refl, sym, ap, subst, ◌∙◌, arith}
 use Rattle.std.specs.List.{AllZip, Contains, slice_get}
 use Rattle.std.proofs.lemmas.Bool.{cases_lt, le-ltb}
 use Rattle.std.proofs.lemmas.List.{length_push}
@@ -11,11 +11,11 @@ use Rattle.wc_model.specs.declared.graphs.Head.{Head}
 use Rattle.wc_model.specs.declared.graphs.Nest.{Nest}
 use Rattle.wc_model.specs.declared.graphs.Node.{Node}
 use Rattle.wc_model.specs.declared.graphs.Step.{Step}
-use Rattle.wc_model.specs.Flow.Bounds.{StatesBound, StandsFor, IsBoundOf, HasNoBound, AreBounds, IsUnbounded}
+use Rattle.wc_model.specs.Flow.Bounds.{StandsFor, IsBoundOf, HasNoBound, AreBounds, IsUnbounded}
 use Rattle.wc_model.specs.Flow.Nest.{StepsAt, IsNest}
 use Rattle.wc_model.specs.Program.Graphs.{LeadsIn, IsGraph}
 use Rattle.wc_model.specs.Program.Positions.{Position}
-use Rattle.wc_model.proofs.Places.{contains_from_get, get_from_contains, get_push_cases, get_within}
+use Rattle.wc_model.proofs.Places.{contains_from_get, get_from_contains, get_push_cases}
 use Rattle.wc_bounds.specs.declared.best.Best.{Best}
 use Rattle.wc_bounds.specs.declared.tallies.Tally.{Tally}
 use Rattle.wc_bounds.specs.Heads.{HavePlaces}

@@ -1,5 +1,5 @@
 -- The best of the bounds that facts state for a position: the longest call string first, then the least bound.
-use Rattle.std.specs.Prelude.{ℕ, reverse, ◌≡◌, ◌<◌, ◌≤◌, ◌⊎◌, Bool, nat_lt, if◌then◌else◌, List, Option, None, Some, IfSome, slice_get, length}
+use Rattle.std.specs.Prelude.{ℕ, reverse, ◌≡◌, ◌<◌, Bool, nat_lt, if◌then◌else◌, List, Option, None, Some, IfSome, slice_get, length}
 use Rattle.wc_model.specs.declared.flow_facts.Fact.{Fact}
 use Rattle.wc_model.specs.declared.flow_facts.Fact.TheVariants.{Loop}
 use Rattle.wc_model.specs.declared.graphs.Context.{Context}

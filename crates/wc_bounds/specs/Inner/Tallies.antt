@@ -1,12 +1,11 @@
 -- The bounds of the first heads, and the least address of one that has none.
-use Rattle.std.specs.Prelude.{ℕ, ◌+◌, map, ◌≡◌, ◌<◌, ◌≤◌, nat_lt, if◌then◌else◌, List, Option, None, Some, Contains, slice_get, length}
-use Rattle.std.specs.List.{AllZip}
+use Rattle.std.specs.Prelude.{ℕ, ◌+◌, map, ◌≡◌, ◌<◌, ◌≤◌, nat_lt, if◌then◌else◌, List, Option, None, Some, slice_get, length}
 use Rattle.wc_model.specs.declared.flow_facts.Fact.{Fact}
 use Rattle.wc_model.specs.declared.graphs.Graph.{Graph}
 use Rattle.wc_model.specs.declared.graphs.Head.{Head}
 use Rattle.wc_model.specs.declared.graphs.Nest.{Nest}
 use Rattle.wc_model.specs.declared.graphs.Node.{Node}
-use Rattle.wc_model.specs.Flow.Bounds.{StandsFor, IsBoundOf, HasNoBound, AreBounds, IsUnbounded}
+use Rattle.wc_model.specs.Flow.Bounds.{StandsFor, IsBoundOf, HasNoBound, IsUnbounded}
 use Rattle.wc_model.specs.Program.Positions.{Position}
 use Rattle.wc_bounds.specs.declared.tallies.Tally.{Tally}
 

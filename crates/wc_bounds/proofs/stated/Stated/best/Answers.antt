@@ -1,4 +1,4 @@
-use Rattle.std.proofs.Common.{ℕ, suc, ◌≡◌, ◌<◌, Option, None, Some, length, subst, sym, ap, arith, rules}
+use Rattle.std.proofs.Common.{ℕ, ◌≡◌, ◌<◌, Option, None, Some, length, subst, sym, ap, arith}
 use Rattle.wc_bounds.specs.declared.best.Best.{Best}
 use Rattle.wc_bounds.specs.Inner.Stated.{IsLatest, IsBestFrom, places_before}
 use Rattle.wc_bounds.proofs.StatedLemmas.{best_first, best_last, best_more, before_less, less_from, none_from, place_within}

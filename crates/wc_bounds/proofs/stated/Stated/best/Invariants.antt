@@ -1,4 +1,4 @@
-use Rattle.std.proofs.Common.{ℕ, suc, Option, None, Some}
+use Rattle.std.proofs.Common.{ℕ}
 use Rattle.wc_model.specs.Program.Positions.{Position}
 use Rattle.wc_bounds.specs.Inner.Best.{IsAt}
 use Rattle.wc_bounds.specs.Inner.Stated.{IsLatest, IsBestFrom, places_before}

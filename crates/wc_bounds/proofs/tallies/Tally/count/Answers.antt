@@ -1,4 +1,4 @@
-use Rattle.std.proofs.Common.{◌≡◌, None, Some, refl, sym, ap, ◌∙◌}
+use Rattle.std.proofs.Common.{Some, refl, ap}
 use Rattle.wc_bounds.proofs.TallyLemmas.{count_none, count_some}
 use Rattle.wc_bounds.proofs.tallies.Tally.count.Goals as goal
 
