@@ -1,0 +1,4 @@
+pub mod BlockLemmas
+pub mod DualityLemmas
+pub mod FlowLemmas
+pub mod WalkLemmas
