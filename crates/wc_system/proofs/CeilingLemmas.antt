@@ -24,10 +24,10 @@ dearest_some (t ∷ steps) p = by (t.source == p) (dearest_some steps p)
 
 pub dearest_begin : (steps : List SystemStep) (nodes : ℕ) (costs : List ℕ) → costs ≡ replicate nodes 1 → AreDearest steps nodes 0 costs
 dearest_begin steps nodes costs is = record {
-    counted = ap length is ∙ length-replicate nodes 1;
-    some = λ p within. omega (arith, one p within);
-    most = λ p within. omega (arith, one p within, dearest_some steps p);
-  }
+  counted = ap length is ∙ length-replicate nodes 1;
+  some = λ p within. omega (arith, one p within);
+  most = λ p within. omega (arith, one p within, dearest_some steps p);
+}
   where
     one : (p : ℕ) → p < nodes → slice_index costs p ≡ 1
     one p within = ap (λ cs. slice_index cs p) is ∙ get_or-replicate nodes p 1 0 within
@@ -40,6 +40,7 @@ module _ (cap : ℕ) where
     where
       below : b < cap → min (suc c * min b cap) cap ≡ min (suc c * b) cap
       below less = let same : min b cap ≡ b = omega arith in ap (λ n. min (suc c * n) cap) same
+
       above : cap ≤ b → min (suc c * min b cap) cap ≡ min (suc c * b) cap
       above more =
           let same : min b cap ≡ cap = omega arith in
@@ -85,11 +86,13 @@ module _ (heads : List Head) (parents : (k : ℕ) (h : Head) → slice_get heads
         front [] k below = absurd (omega arith)
         front (x ∷ xs) zero below = refl
         front (x ∷ xs) (suc k) below = front xs k (omega arith)
+
         end : (xs : List ℕ) (k : ℕ) → length xs ≡ k → slice_index (xs ++ last ∷ []) k ≡ last
         end [] zero same = refl
         end [] (suc k) same = absurd (omega arith)
         end (x ∷ xs) zero same = absurd (omega arith)
         end (x ∷ xs) (suc k) same = end xs k (omega arith)
+
         by : (k : ℕ) → (k < place) ⊎ (place ≤ k) → k < place + 1 → slice_index (rounds ++ last ∷ []) k ≡ capped (rounds_of bounds (loops_out heads (k + 1) (Some k)))
         by k (inl less) below = front rounds k (omega arith) ∙ are k less
         by k (inr more) below =

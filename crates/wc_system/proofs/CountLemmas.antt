@@ -56,9 +56,14 @@ pub column_next : (s : System) (passed : List Bool) (place count one : ℕ) → 
 column_next s passed place count one are sources within is =
     let here : (t : SystemStep) × (slice_get s.steps place ≡ Some t) × (drop place s.steps ≡ t ∷ drop (place + 1) s.steps) = first_of s.steps place within in
     let source : here.0.source < s.nodes = subst (λ t. t.source < s.nodes) (get_or_from_slice_get s.steps place here.0 here.0 here.1) (sources place here.0 within) in
-    omega (arith, is here.0 here.1, ap {B = ℕ} (λ b. if b then 0 else 1) (are.each here.0.source source), turned (is_passed s here.0.source),
-    counted_first (λ i t. not (is_passed s t.source)) place here.0 (drop (place + 1) s.steps),
-    ap (λ xs. length (places_from place (λ i t. not (is_passed s t.source)) xs)) here.2)
+    omega (
+      arith,
+      is here.0 here.1,
+      ap {B = ℕ} (λ b. if b then 0 else 1) (are.each here.0.source source),
+      turned (is_passed s here.0.source),
+      counted_first (λ i t. not (is_passed s t.source)) place here.0 (drop (place + 1) s.steps),
+      ap (λ xs. length (places_from place (λ i t. not (is_passed s t.source)) xs)) here.2,
+    )
 
 -- Counts of a node's steps: one step more.
 no_more : {X : Type 0} (xs : List X) → drop (length xs) xs ≡ []
@@ -86,19 +91,31 @@ target_next steps nodes place counts target are within inside is =
         by false is' =
             let apart : p ≡ q → ⊥ = λ same. absurd (grind (arith, nat_tests)) in
             get_or-set_other counts q p (slice_index counts q + 1) 0 apart ∙ omega arith
+
     by : (o : Option ℕ) → IfSome o (λ q. q < nodes) → (t : SystemStep) → o ≡ t.target → drop place steps ≡ t ∷ drop (place + 1) steps → AreCounts enters_node steps nodes (place + 1) (raised o counts)
     by None inside' t leads rest = record {
-        counted = are.counted;
-        few = λ p p-within. omega (arith, are.few p p-within);
-        each = λ p p-within. omega (arith, are.each p p-within, counted_first (λ i s. enters_node p s) place t (drop (place + 1) steps),
-          ap (λ xs. length (places_from place (λ i s. enters_node p s) xs)) rest, ap {B = ℕ} (λ o. if leads_to o p then 1 else 0) leads);
-      }
+      counted = are.counted;
+      few = λ p p-within. omega (arith, are.few p p-within);
+      each = λ p p-within. omega (
+        arith,
+        are.each p p-within,
+        counted_first (λ i s. enters_node p s) place t (drop (place + 1) steps),
+        ap (λ xs. length (places_from place (λ i s. enters_node p s) xs)) rest,
+        ap {B = ℕ} (λ o. if leads_to o p then 1 else 0) leads,
+      );
+    }
     by (Some q) inside' t leads rest = record {
-        counted = length-set counts q (slice_index counts q + 1) ∙ are.counted;
-        few = λ p p-within. omega (arith, raised_at p q p-within inside', at_most (q == p), are.few p p-within);
-        each = λ p p-within. omega (arith, raised_at p q p-within inside', are.each p p-within, counted_first (λ i s. enters_node p s) place t (drop (place + 1) steps),
-          ap (λ xs. length (places_from place (λ i s. enters_node p s) xs)) rest, ap {B = ℕ} (λ o. if leads_to o p then 1 else 0) leads);
-      }
+      counted = length-set counts q (slice_index counts q + 1) ∙ are.counted;
+      few = λ p p-within. omega (arith, raised_at p q p-within inside', at_most (q == p), are.few p p-within);
+      each = λ p p-within. omega (
+        arith,
+        raised_at p q p-within inside',
+        are.each p p-within,
+        counted_first (λ i s. enters_node p s) place t (drop (place + 1) steps),
+        ap (λ xs. length (places_from place (λ i s. enters_node p s) xs)) rest,
+        ap {B = ℕ} (λ o. if leads_to o p then 1 else 0) leads,
+      );
+    }
       where
         at_most : (b : Bool) → (if b then 1 else 0) ≤ 1
         at_most true = omega arith
@@ -109,19 +126,21 @@ pub passed_next : (s : System) (node : ℕ) (passed : List Bool) (ins outs : ℕ
     → ins ≡ length (places_from 0 (λ i t. enters_node node t) s.steps) → outs ≡ length (places_from 0 (λ i t. leaves_node node t) s.steps)
     → last ≡ (not (node == s.start) && ins == 1 && outs == 1) → ArePassed s (node + 1) (passed ++ last ∷ [])
 passed_next s node passed ins outs last are ins-are outs-are is = record {
-    counted = length-append passed (last ∷ []) ∙ ap (λ n. n + 1) are.counted;
-    each = λ p within. by p (cases_lt p node) within;
-  }
+  counted = length-append passed (last ∷ []) ∙ ap (λ n. n + 1) are.counted;
+  each = λ p within. by p (cases_lt p node) within;
+}
   where
     front : (xs : List Bool) (k : ℕ) → k < length xs → slice_index_or (xs ++ last ∷ []) k false ≡ slice_index_or xs k false
     front [] k below = absurd (omega arith)
     front (x ∷ xs) zero below = refl
     front (x ∷ xs) (suc k) below = front xs k (omega arith)
+
     end : (xs : List Bool) (k : ℕ) → length xs ≡ k → slice_index_or (xs ++ last ∷ []) k false ≡ last
     end [] zero same = refl
     end [] (suc k) same = absurd (omega arith)
     end (x ∷ xs) zero same = absurd (omega arith)
     end (x ∷ xs) (suc k) same = end xs k (omega arith)
+
     by : (p : ℕ) → (p < node) ⊎ (node ≤ p) → p < node + 1 → slice_index_or (passed ++ last ∷ []) p false ≡ is_passed s p
     by p (inl less) within = front passed p (omega (arith, are.counted)) ∙ are.each p less
     by p (inr more) within =
@@ -152,6 +171,7 @@ cells_are s limits rows columns slacks rows-are columns-are slacks-are = ap₂ (
   where
     left : rows + slacks + 2 ≡ length (row_nodes s) + length s.loops + limits + 2
     left = omega (arith, rows-are, slacks-are)
+
     right : columns + slacks + (rows + slacks) + 2 ≡ length (columns_of s) + (length s.loops + limits) + (length (row_nodes s) + length s.loops + limits) + 2
     right = omega (arith, rows-are, slacks-are, columns-are, columns_counted s)
 

@@ -75,6 +75,7 @@ module _ (graph : Graph) (left right : List Term) where
     where
       pair : Node → ℕ × ℤ
       pair m = (first, stated_factor left right (node_position graph m))
+
       by : (b : Bool) → is_listed n (names_from (first + 1) nodes) ≡ false → is_listed n (map (λ f. f.0) (cond b ((first, stated_factor left right (node_position graph node)) ∷ filter counts_some (factor_pairs graph left right (first + 1) nodes)) (filter counts_some (factor_pairs graph left right (first + 1) nodes)))) ≡ false
       by true rest = ap₂ (λ a b. a || b) (apart n first before) rest
       by false rest = rest
@@ -110,6 +111,7 @@ limits_are graph facts = All-from_recursion (λ l. ArePlaces (length graph.nodes
     one (Multicall _ _) = tt
     one (Noreturn _) = tt
     one (Checksum _ _) = tt
+
     each : (fs : List (ℕ × Fact)) → AllByRecursion (λ l. ArePlaces (length graph.nodes) (named_by l)) (facts_limits graph fs)
     each [] = tt
     each (f ∷ fs) = each_append (λ l. ArePlaces (length graph.nodes) (named_by l)) (fact_limits graph f.1) (facts_limits graph fs) (one f.1) (each fs)

@@ -68,6 +68,7 @@ none_after p vs place d sorted within from other = none_from p (drop place vs) (
   where
     differs : (a b : ℕ) → b ≤ a → (a ≡ b → ⊥) → b < a
     differs a b le apart = grind (arith, nat_tests)
+
     get_or_any : (xs : List Visit) (i : ℕ) (a b : Visit) → i < length xs → get_or xs i a ≡ get_or xs i b
     get_or_any [] i a b below = absurd (omega (arith, below))
     get_or_any (x ∷ xs) zero a b below = refl

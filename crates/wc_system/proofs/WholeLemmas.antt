@@ -28,15 +28,15 @@ module _ (graph : Graph) (nest : Nest) (bounds : Bounds) (costs : Costs) (s : Sy
     (bounded : length bounds.of ≡ length nest.heads) (costed : length costs.of ≡ length graph.steps) (is : IsSystemOf graph nest bounds costs [] s) where
   pub unlimited_sound : AreSmall bounds.of → IsSystem s
   unlimited_sound small = record {
-      start = omega (arith, is.start, is.nodes, g.starts);
-      sources = subst (λ xs. All (λ t. t.source < s.nodes) xs) (sym is.steps)
+    start = omega (arith, is.start, is.nodes, g.starts);
+    sources = subst (λ xs. All (λ t. t.source < s.nodes) xs) (sym is.steps)
         (steps_all (λ p t. p < s.nodes) graph.steps costs.of (subst (λ n. All (λ x. x.source < n) graph.steps) (sym is.nodes) g.sources));
-      targets = subst (λ xs. All (λ t. IfSome t.target (λ q. q < s.nodes)) xs) (sym is.steps)
+    targets = subst (λ xs. All (λ t. IfSome t.target (λ q. q < s.nodes)) xs) (sym is.steps)
         (steps_all (λ p t. IfSome t (λ q. q < s.nodes)) graph.steps costs.of (subst (λ n. All (λ x. IfSome x.target (λ q. q < n)) graph.steps) (sym is.nodes) g.targets));
-      loops = subst (λ xs. All (IsSystemLoop s) xs) (sym is.loops)
+    loops = subst (λ xs. All (IsSystemLoop s) xs) (sym is.loops)
         (loops_are s nest nest.heads bounds.of (subst (λ n. All (λ h. h.node < n) nest.heads) (sym is.nodes) shape.heads) small);
-      limits = subst (λ xs. All (λ l. ArePlaces s.nodes (named_by l)) xs) (sym is.limits) (all_none (λ l. ArePlaces s.nodes (named_by l)));
-    }
+    limits = subst (λ xs. All (λ l. ArePlaces s.nodes (named_by l)) xs) (sym is.limits) (all_none (λ l. ArePlaces s.nodes (named_by l)));
+  }
 
   pub steps_few : length s.steps < 2 ^ 32
   steps_few = omega (arith, ap length is.steps, steps_counted graph.steps costs.of costed, g.few_steps)
@@ -52,12 +52,12 @@ module _ (graph : Graph) (nest : Nest) (bounds : Bounds) (costs : Costs) (s : Sy
 -- the limits are added
 limited_sound : (graph : Graph) (facts : List (ℕ × Fact)) (s : System) → s.nodes ≡ length graph.nodes → IsSystem s → IsSystem (with_limits s (facts_limits graph facts))
 limited_sound graph facts s nodes is = record {
-    start = is.start;
-    sources = is.sources;
-    targets = is.targets;
-    loops = λ k d within. let l = is.loops k d within in record { head = l.head; bound = l.bound; back = l.back; entry = l.entry };
-    limits = subst (λ n. All (λ l. ArePlaces n (named_by l)) (facts_limits graph facts)) (sym nodes) (limits_are graph facts);
-  }
+  start = is.start;
+  sources = is.sources;
+  targets = is.targets;
+  loops = λ k d within. let l = is.loops k d within in record { head = l.head; bound = l.bound; back = l.back; entry = l.entry };
+  limits = subst (λ n. All (λ l. ArePlaces n (named_by l)) (facts_limits graph facts)) (sym nodes) (limits_are graph facts);
+}
 
 pub sound_of : (graph : Graph) (facts : List (ℕ × Fact)) (s : System) (r : Result System Trouble) → s.nodes ≡ length graph.nodes → IsSystem s → Answers (IsLimited graph facts s) r → IfOk r IsSystem
 sound_of graph facts s (Ok limited) nodes is answer = subst IsSystem (sym answer.0) (limited_sound graph facts s nodes is)
@@ -88,9 +88,10 @@ module _ (inputs : Setting) (graph : Graph) (nest : Nest) (bounds : Bounds) (cos
 -- the cells of the system with its limits
 pub too_big_is : (s : System) (limits cells : ℕ) (ls : List SystemLimit) → length ls ≡ limits → (limits ≡ 0 → ⊥) → cells ≡ min (cells_with s limits) (2 ^ 128 - 1)
     → (250000 < cells) ↔ IsTooBig (with_limits s ls)
-too_big_is s limits cells ls counted some is =
-    ((λ more. ((λ none. some (sym counted ∙ ap length none)), subst (λ n. 250000 < n) (ap (cells_with s) (sym counted)) (omega (arith, is, more)))),
-    (λ big'. let many : 250000 < cells_with s limits = subst (λ n. 250000 < cells_with s n) counted big'.1 in omega (arith, is, many)))
+too_big_is s limits cells ls counted some is = (
+  (λ more. ((λ none. some (sym counted ∙ ap length none)), subst (λ n. 250000 < n) (ap (cells_with s) (sym counted)) (omega (arith, is, more)))),
+  (λ big'. let many : 250000 < cells_with s limits = subst (λ n. 250000 < cells_with s n) counted big'.1 in omega (arith, is, many)),
+)
 
 pub none_too_big : (s : System) (ls : List SystemLimit) → length ls ≡ 0 → IsTooBig (with_limits s ls) → ⊥
 none_too_big s [] counted big' = big'.0 refl

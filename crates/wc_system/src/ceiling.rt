@@ -10,7 +10,12 @@ use wc_model::{Head, Nest, SystemStep};
 pub const CEILING: u128 = 1 << 100;
 
 /// The ceiling of a system, or 2^100 where it is more.
-pub fn capped_ceiling(alloc: Global, nest: &Nest, bounds: &[u32], steps: &[SystemStep]) -> Result<u128, AllocError>
+pub fn capped_ceiling(
+    alloc: Global,
+    nest: &Nest,
+    bounds: &[u32],
+    steps: &[SystemStep],
+) -> Result<u128, AllocError>
     requires bounds { length bounds.now ≡ length nest.now.heads }
     requires parents { (k : ℕ) (h : Head) → slice_get nest.now.heads k ≡ Some h → IfSome h.parent (λ j. j < k) }
     requires inside { All (λ o. IfSome o (λ k. k < length nest.now.heads)) nest.now.inside }
@@ -98,7 +103,10 @@ fn total(inside: &[Option<u32>], rounds: &[u128], dearest: &[u64]) -> u128
 {
     let mut sum = 0;
     for place in 0..inside.len() {
-        sum = capped_sum(sum, capped_product(dearest[place] as u128, rounds_at(inside[place], rounds)));
+        sum = capped_sum(
+            sum,
+            capped_product(dearest[place] as u128, rounds_at(inside[place], rounds)),
+        );
     }
     sum
 }

@@ -13,3 +13,6 @@ mod terms;
 mod whole;
 
 pub use whole::system;
+
+#[cfg(test)]
+mod tests;

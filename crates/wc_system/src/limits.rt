@@ -12,7 +12,11 @@ use std::alloc::{AllocError, Global};
 use wc_model::{Context, Fact, Graph, Node, SystemLimit, Table, Term};
 
 /// The limits that the facts state, in their order.
-pub fn limits_of(alloc: Global, graph: &Graph, facts: &[(u64, Fact)]) -> Result<Vec<SystemLimit>, AllocError>
+pub fn limits_of(
+    alloc: Global,
+    graph: &Graph,
+    facts: &[(u64, Fact)],
+) -> Result<Vec<SystemLimit>, AllocError>
     requires parents { AreContexts graph.now.contexts }
     requires placed { All (λ n. n.context < length graph.now.contexts) graph.now.nodes }
     requires few { length graph.now.nodes < 2 ^ 32 }
@@ -46,7 +50,12 @@ fn one_limit(fact: &Fact) -> usize
     }
 }
 
-fn add_limit(alloc: Global, graph: &Graph, fact: &Fact, limits: &mut Vec<SystemLimit>) -> Result<(), AllocError>
+fn add_limit(
+    alloc: Global,
+    graph: &Graph,
+    fact: &Fact,
+    limits: &mut Vec<SystemLimit>,
+) -> Result<(), AllocError>
     requires parents { AreContexts graph.now.contexts }
     requires placed { All (λ n. n.context < length graph.now.contexts) graph.now.nodes }
     requires few { length graph.now.nodes < 2 ^ 32 }
@@ -58,7 +67,12 @@ fn add_limit(alloc: Global, graph: &Graph, fact: &Fact, limits: &mut Vec<SystemL
     Ok(())
 }
 
-fn limit_of(alloc: Global, graph: &Graph, left: &[Term], right: &[Term]) -> Result<SystemLimit, AllocError>
+fn limit_of(
+    alloc: Global,
+    graph: &Graph,
+    left: &[Term],
+    right: &[Term],
+) -> Result<SystemLimit, AllocError>
     requires parents { AreContexts graph.now.contexts }
     requires placed { All (λ n. n.context < length graph.now.contexts) graph.now.nodes }
     requires few { length graph.now.nodes < 2 ^ 32 }
@@ -66,7 +80,13 @@ fn limit_of(alloc: Global, graph: &Graph, left: &[Term], right: &[Term]) -> Resu
 {
     let plus = visits_of(alloc, left)?;
     let minus = visits_of(alloc, right)?;
-    let factors = factors_of(alloc, graph.nodes.items(), graph.contexts.items(), plus.as_slice(), minus.as_slice())?;
+    let factors = factors_of(
+        alloc,
+        graph.nodes.items(),
+        graph.contexts.items(),
+        plus.as_slice(),
+        minus.as_slice(),
+    )?;
     Ok(SystemLimit {
         constant: difference(constant_of(right), constant_of(left)),
         factors: Table::new(factors),
@@ -74,7 +94,13 @@ fn limit_of(alloc: Global, graph: &Graph, left: &[Term], right: &[Term]) -> Resu
 }
 
 // the nodes in order, without those of factor 0
-fn factors_of(alloc: Global, nodes: &[Node], contexts: &[Context], plus: &[Visit], minus: &[Visit]) -> Result<Vec<(u32, i128)>, AllocError>
+fn factors_of(
+    alloc: Global,
+    nodes: &[Node],
+    contexts: &[Context],
+    plus: &[Visit],
+    minus: &[Visit],
+) -> Result<Vec<(u32, i128)>, AllocError>
     requires plus { IsNonDecreasingBy (λ (t : Visit). t.at) plus.now }
     requires minus { IsNonDecreasingBy (λ (t : Visit). t.at) minus.now }
     requires parents { AreContexts contexts.now }
@@ -84,7 +110,10 @@ fn factors_of(alloc: Global, nodes: &[Node], contexts: &[Context], plus: &[Visit
 {
     let mut factors = Vec::new(alloc);
     for place in 0..nodes.len() {
-        let factor = difference(times_at(plus, contexts, &nodes[place]), times_at(minus, contexts, &nodes[place]));
+        let factor = difference(
+            times_at(plus, contexts, &nodes[place]),
+            times_at(minus, contexts, &nodes[place]),
+        );
         add_factor(&mut factors, place as u32, factor)?;
     }
     Ok(factors)

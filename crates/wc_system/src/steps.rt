@@ -5,7 +5,11 @@ use std::alloc::{AllocError, Global};
 use wc_model::{Step, SystemStep};
 
 /// The graph's steps, each with its cost.
-pub fn costed_steps(alloc: Global, steps: &[Step], costs: &[u64]) -> Result<Vec<SystemStep>, AllocError>
+pub fn costed_steps(
+    alloc: Global,
+    steps: &[Step],
+    costs: &[u64],
+) -> Result<Vec<SystemStep>, AllocError>
     requires { length costs.now ≡ length steps.now }
     ensures { IfOk result (λ v. v.items ≡ system_steps steps.now costs.now) }
 {
@@ -19,5 +23,9 @@ pub fn costed_steps(alloc: Global, steps: &[Step], costs: &[u64]) -> Result<Vec<
 fn costed_step(step: &Step, cost: u64) -> SystemStep
     ensures { result ≡ record { source = step.now.source; target = step.now.target; cost = cost } }
 {
-    SystemStep { source: step.source, target: step.target, cost }
+    SystemStep {
+        source: step.source,
+        target: step.target,
+        cost,
+    }
 }

@@ -44,7 +44,11 @@ fn add_visit<'a>(visits: &mut Vec<Visit<'a>>, term: &'a Term) -> Result<(), Allo
     match term {
         Term::Constant(_) => {}
         Term::Visits { times, at, within } => {
-            visits.push(Visit { at: *at, times: *times, within: within.items() })?;
+            visits.push(Visit {
+                at: *at,
+                times: *times,
+                within: within.items(),
+            })?;
         }
     }
     Ok(())

@@ -23,7 +23,14 @@ const MOST_CELLS: u128 = 250_000;
 
 /// The flow system of a graph and its nest: refused by the ceiling, or else, only with stated limits, by the cells of
 /// its tableau.
-pub fn system(alloc: Global, graph: &Graph, nest: &Nest, bounds: &Bounds, costs: &Costs, facts: &Facts) -> Result<System, Trouble>
+pub fn system(
+    alloc: Global,
+    graph: &Graph,
+    nest: &Nest,
+    bounds: &Bounds,
+    costs: &Costs,
+    facts: &Facts,
+) -> Result<System, Trouble>
     requires graph { IsGraph graph.now }
     requires nest { IsNestShape graph.now nest.now }
     requires bounds { length bounds.now.of ≡ length nest.now.heads }
@@ -41,7 +48,13 @@ pub fn system(alloc: Global, graph: &Graph, nest: &Nest, bounds: &Bounds, costs:
 }
 
 // the system without limits
-fn unlimited(alloc: Global, graph: &Graph, nest: &Nest, bounds: &Bounds, costs: &Costs) -> Result<System, AllocError>
+fn unlimited(
+    alloc: Global,
+    graph: &Graph,
+    nest: &Nest,
+    bounds: &Bounds,
+    costs: &Costs,
+) -> Result<System, AllocError>
     requires graph { IsGraph graph.now }
     requires nest { IsNestShape graph.now nest.now }
     requires bounds { length bounds.now.of ≡ length nest.now.heads }
@@ -77,10 +90,16 @@ fn is_sound(graph: &Graph, nest: &Nest, bounds: &Bounds, costs: &Costs, system: 
 // a law alone
 fn bounds_fit(bounds: &[u32])
     ensures { AreSmall bounds.now }
-{
-}
+{}
 
-fn system_ceiling(alloc: Global, graph: &Graph, nest: &Nest, bounds: &Bounds, costs: &Costs, system: &System) -> Result<u128, AllocError>
+fn system_ceiling(
+    alloc: Global,
+    graph: &Graph,
+    nest: &Nest,
+    bounds: &Bounds,
+    costs: &Costs,
+    system: &System,
+) -> Result<u128, AllocError>
     requires graph { IsGraph graph.now }
     requires nest { IsNestShape graph.now nest.now }
     requires bounds { length bounds.now.of ≡ length nest.now.heads }

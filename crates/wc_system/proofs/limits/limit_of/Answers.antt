@@ -16,6 +16,6 @@ returns c =
     let plus = c.in_ok-plus.plus.items in
     let minus = c.in_ok-minus.minus.items in
     let here : filter counts_some (visit_pairs c.items-2.result.now c.as_slice.result.now c.as_slice-2.result.now 0 c.items.result.now) ≡ filter counts_some (visit_pairs graph.contexts plus minus 0 graph.nodes) =
-        rw (c.as_slice.ensures.value, c.as_slice-2.ensures.value, c.items.ensures, c.items-2.ensures) refl in
+    rw (c.as_slice.ensures.value, c.as_slice-2.ensures.value, c.items.ensures, c.items-2.ensures) refl in
     let factors = c.new.ensures ∙ c.in_ok-factors.ensures ∙ here ∙ ap (filter counts_some) pairs in
     limit_is graph c.args.left.now c.args.right.now _ _ constant factors

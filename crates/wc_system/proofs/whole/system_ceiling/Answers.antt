@@ -13,5 +13,5 @@ capped_ceiling-requires-clause-sources c =
 pub returns : goal.returns
 returns c =
     let same = ap₂ (λ bounds steps. ceiling_by c.args.nest.now bounds (length c.args.nest.now.inside) steps) c.items.ensures c.items-2.ensures
-        ∙ ceiling_as c.args.graph.now c.args.nest.now c.args.bounds.now c.args.costs.now c.args.system.now c.requires.graph c.requires.nest c.requires.bounds c.requires.costs c.requires.system in
+    ∙ ceiling_as c.args.graph.now c.args.nest.now c.args.bounds.now c.args.costs.now c.args.system.now c.requires.graph c.requires.nest c.requires.bounds c.requires.costs c.requires.system in
     subst (λ m. IfOk c.capped_ceiling.result (λ n. n ≡ capped m)) same c.capped_ceiling.ensures
