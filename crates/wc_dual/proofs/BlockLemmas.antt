@@ -49,8 +49,10 @@ step_out first amount t old other cannot =
         by : (b : Bool) → (q == p) ≡ b → b ≡ false
         by true is = let eq : q ≡ p = grind (arith, nat_tests) in absurd (apart (ap Some eq))
         by false is = refl
+
     equal : (a b : ℕ) → a ≡ b → (a == b) ≡ true
     equal a b is = grind (arith, nat_tests)
+
     same : (k : ℕ) → t.source ≡ first + k → number_at old k +ℤ balance_of amount t (first + k) ≡ number_at old k +ℤ amount
     same k is = omega (arith, ints, ap (λ b. chosen b amount) (equal t.source (first + k) is), ap (λ b. chosen b amount) (none t.target (first + k) (λ leads. other (leads ∙ ap Some (sym is)))))
 
@@ -60,17 +62,27 @@ step_into first amount t old mid other out cannot = by t.target refl cannot
   where
     differs : (a b : ℕ) → (a ≡ b → ⊥) → (a == b) ≡ false
     differs a b apart = grind (arith, nat_tests)
+
     equal : (a b : ℕ) → a ≡ b → (a == b) ≡ true
     equal a b is = grind (arith, nat_tests)
+
     by : (o : Option ℕ) → t.target ≡ o → CannotTake first o amount mid → CannotAdd first (balance_of amount t) old
     by None leads cannot' = absurd cannot'
     by (Some q) leads cannot' =
         let k : ℕ = q - first in
         let at : q ≡ first + k = omega (arith, cannot'.0) in
-        let within : k < length old = omega (arith, cannot'.1, out.0) in
-        (k, within, λ fits. cannot'.2 (subst (λ z. InRange z) (omega (arith, ints, out.1 k within,
-        ap (λ b. chosen b amount) (differs t.source (first + k) (λ same. other (leads ∙ ap Some (at ∙ sym same)))),
-        ap (λ o. chosen (leads_to o (first + k)) amount) leads, ap (λ b. chosen b amount) (equal q (first + k) at))) fits))
+        let within : k < length old = omega (arith, cannot'.1, out.0) in (
+          k,
+          within,
+          λ fits. cannot'.2 (subst (λ z. InRange z) (omega (
+            arith,
+            ints,
+            out.1 k within,
+            ap (λ b. chosen b amount) (differs t.source (first + k) (λ same. other (leads ∙ ap Some (at ∙ sym same)))),
+            ap (λ o. chosen (leads_to o (first + k)) amount) leads,
+            ap (λ b. chosen b amount) (equal q (first + k) at),
+          )) fits),
+        )
 
 pub step_turn : (first : ℕ) (amount : ℤ) (t : SystemStep) (old mid new : List ℤ) (b : Bool) → (t.target ≡ Some t.source → ⊥) → Adds first (λ p. chosen (t.source == p) amount) old mid
     → MatchBool b (Adds first (λ p. neg_ℤ (chosen (leads_to t.target p) amount)) mid new) (CannotTake first t.target amount mid) → IsTurn first (balance_of amount t) old new b
@@ -86,6 +98,12 @@ balances_next steps x first place t old new at are adds k below =
 
 pub balances_out : (steps : List SystemStep) (x : ℕ → ℤ) (first place count : ℕ) (t : SystemStep) (old : List ℤ) → slice_get steps place ≡ Some t → length old ≡ count → AreBalances steps x first place old
     → CannotAdd first (balance_of (x place) t) old → LeavesIn steps x first count
-balances_out steps x first place count t old at counted are cannot =
-    (cannot.0, omega (arith, cannot.1, counted), (place + 1, λ fits. cannot.2 (subst (λ z. InRange z)
-    (omega (arith, ints, sum_more (balance x (first + cannot.0)) steps place t at, are cannot.0 cannot.1)) fits)))
+balances_out steps x first place count t old at counted are cannot = (
+  cannot.0,
+  omega (arith, cannot.1, counted),
+  (
+    place + 1,
+    λ fits. cannot.2 (subst (λ z. InRange z)
+        (omega (arith, ints, sum_more (balance x (first + cannot.0)) steps place t at, are cannot.0 cannot.1)) fits),
+  ),
+)

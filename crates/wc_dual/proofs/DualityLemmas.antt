@@ -71,7 +71,7 @@ module _ (weight : ℕ → ℤ) (x : ℕ → ℤ) (steps : List SystemStep) (n :
 pub same_number : (n i : ℕ) → (i == n) ≡ true → i ≡ n
 same_number n i is = grind (arith, nat_tests)
 
-turned : (n i : ℕ) → (i == n) ≡ (n == i)
+pub turned : (n i : ℕ) → (i == n) ≡ (n == i)
 turned n i = by (n == i) refl
   where
     by : (b : Bool) → (n == i) ≡ b → (i == n) ≡ b

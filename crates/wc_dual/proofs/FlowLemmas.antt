@@ -21,7 +21,7 @@ use Rattle.wc_dual.proofs.DualityLemmas.{get_all}
 net : (steps : List SystemStep) (x : ℕ → ℤ) (p : ℕ) → sum_placed (balance x p) steps ≡ out_of steps x p -ℤ into steps x p
 net steps x p = sum_less (λ i t. chosen (t.source == p) (x i)) (λ i t. chosen (leads_to t.target p) (x i)) steps
 
-get_take : {X : Type 0} (xs : List X) (n i : ℕ) (x : X) → slice_get (take n xs) i ≡ Some x → slice_get xs i ≡ Some x
+pub get_take : {X : Type 0} (xs : List X) (n i : ℕ) (x : X) → slice_get (take n xs) i ≡ Some x → slice_get xs i ≡ Some x
 get_take [] zero i x at = at
 get_take [] (suc n) i x at = at
 get_take (y ∷ xs) zero i x at = cc
@@ -32,11 +32,16 @@ get_take (y ∷ xs) (suc n) (suc i) x at = get_take xs n i x at
 far_node : (s : System) (x : ℕ → ℤ) (p n : ℕ) → IsSystem s → s.nodes ≤ p → sum_placed (balance x p) (take n s.steps) ≡ pos 0
 far_node s x p n is far = sum_zero (balance x p) (take n s.steps) (λ i t at.
     let here : slice_get s.steps i ≡ Some t = get_take s.steps n i t at in
-    omega (arith, ints, ap (λ b. chosen b (x i)) (apart t.source (get_all (λ o. o.source < s.nodes) s.steps i t here is.sources)),
-    ap (λ b. chosen b (x i)) (none t.target (get_all (λ o. IfSome o.target (λ q. q < s.nodes)) s.steps i t here is.targets))))
+    omega (
+      arith,
+      ints,
+      ap (λ b. chosen b (x i)) (apart t.source (get_all (λ o. o.source < s.nodes) s.steps i t here is.sources)),
+      ap (λ b. chosen b (x i)) (none t.target (get_all (λ o. IfSome o.target (λ q. q < s.nodes)) s.steps i t here is.targets)),
+    ))
   where
     apart : (q : ℕ) → q < s.nodes → (q == p) ≡ false
     apart q less = grind (arith, nat_tests)
+
     none : (o : Option ℕ) → IfSome o (λ q. q < s.nodes) → leads_to o p ≡ false
     none None within = refl
     none (Some q) within = apart q within

@@ -3,16 +3,16 @@ ghost use Rattle.wc_base.specs.Sums.{chosen};
 ghost use Rattle.wc_model.specs.declared.flow_system.SystemStep.{SystemStep};
 ghost use Rattle.wc_model.specs.Flow.Places.{number_at};
 ghost use Rattle.wc_model.specs.Flow.Systems.{leads_to};
+ghost use Rattle.wc_dual.specs.Inner.Clauses.{AddsBalance, AreNodeSums, At, IsPut, IsTaken};
 ghost use Rattle.wc_dual.specs.Inner.Blocks.{Adds, AreBalances, CannotPut, CannotTake, IsTurn, LeavesIn, Tells, balance_of};
 
 use crate::numbers::{less, plus};
 use wc_model::SystemStep;
 
 /// Adds an amount to the sum of a node, where the node is in the block that begins with `first`.
-pub fn put(node: u32, amount: &i128, first: usize, sums: &mut [i128]) -> bool
-    ensures { MatchBool result (Adds first (λ p. chosen (node == p) amount.now) sums.old sums.new) (CannotPut first node amount.now sums.old) }
+pub fn put(node: usize, amount: &i128, first: usize, sums: &mut [i128]) -> bool
+    ensures { IsPut first node amount.now sums.old sums.new result }
 {
-    let node = node as usize;
     if node < first || node - first >= sums.len() {
         return true;
     }
@@ -27,7 +27,7 @@ pub fn put(node: u32, amount: &i128, first: usize, sums: &mut [i128]) -> bool
 
 /// Takes an amount off, in the same way.
 pub fn take_off(node: Option<u32>, amount: &i128, first: usize, sums: &mut [i128]) -> bool
-    ensures { MatchBool result (Adds first (λ p. neg_ℤ (chosen (leads_to node p) amount.now)) sums.old sums.new) (CannotTake first node amount.now sums.old) }
+    ensures { IsTaken first node amount.now sums.old sums.new result }
 {
     let Some(node) = node else {
         return true;
@@ -60,7 +60,7 @@ pub fn balances(steps: &[SystemStep], x: &[i128], first: usize, sums: &mut [i128
     requires counted { length x.now ≡ length steps.now }
     requires empty { (k : ℕ) → number_at sums.old k ≡ pos 0 }
     ensures kept { length sums.new ≡ length sums.old }
-    ensures sums { MatchBool result (AreBalances steps.now (number_at x.now) first (length steps.now) sums.new) (LeavesIn steps.now (number_at x.now) first (length sums.old)) }
+    ensures sums { AreNodeSums steps.now x.now first sums.old sums.new result }
 {
     for place in 0..steps.len() {
         if !balance_step(steps, place, x, first, sums) {
@@ -70,10 +70,16 @@ pub fn balances(steps: &[SystemStep], x: &[i128], first: usize, sums: &mut [i128
     true
 }
 
-fn balance_step(steps: &[SystemStep], place: usize, x: &[i128], first: usize, sums: &mut [i128]) -> bool
+fn balance_step(
+    steps: &[SystemStep],
+    place: usize,
+    x: &[i128],
+    first: usize,
+    sums: &mut [i128],
+) -> bool
     requires known { place < length steps.now }
     requires counted { length x.now ≡ length steps.now }
-    ensures { (t : SystemStep) → slice_get steps.now place ≡ Some t → IsTurn first (balance_of (number_at x.now place) t) sums.old sums.new result }
+    ensures { At steps.now place (AddsBalance x.now place first sums.old sums.new result) }
 {
     put_step(steps[place], &x[place], first, sums)
 }
@@ -85,7 +91,7 @@ fn put_step(step: SystemStep, amount: &i128, first: usize, sums: &mut [i128]) ->
     if leads_to_itself(&step) {
         return true;
     }
-    if !put(step.source, amount, first, sums) {
+    if !put(step.source as usize, amount, first, sums) {
         return false;
     }
     take_off(step.target, amount, first, sums)

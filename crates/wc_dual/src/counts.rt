@@ -2,6 +2,7 @@ ghost use Rattle.std.specs.Prelude.{◌≡◌, ◌+◌, ◌<◌, ◌^◌, ◌==�
 ghost use Rattle.wc_base.specs.Sums.{chosen};
 ghost use Rattle.wc_model.specs.Flow.Places.{number_at};
 ghost use Rattle.wc_model.specs.Flow.Systems.{IsSystem};
+ghost use Rattle.wc_dual.specs.Inner.Clauses.{ChecksBlock, ChecksFlow};
 ghost use Rattle.wc_dual.specs.Checks.{IsChecked};
 ghost use Rattle.wc_dual.specs.Inner.Blocks.{Tells};
 ghost use Rattle.wc_dual.specs.Inner.Parts.{AreBalanced, AreWanted, HasWideNode, IsBlock};
@@ -17,7 +18,7 @@ pub fn check_flow(system: &System, den: &i128, x: &[i128], room: &mut [i128]) ->
     requires small { length room.old < 2 ^ 32 }
     requires counted { length x.now ≡ length system.now.steps }
     ensures kept { length room.new ≡ length room.old }
-    ensures flow { IsChecked (AreBalanced system.now den.now (number_at x.now) system.now.nodes) (HasWideNode system.now (number_at x.now)) result }
+    ensures flow { ChecksFlow system.now den.now x.now result }
 {
     let nodes = system.nodes as usize;
     let mut first = 0;
@@ -47,13 +48,17 @@ fn check_block(system: &System, den: &i128, x: &[i128], first: usize, room: &mut
     requires inside { first < system.now.nodes }
     requires first { first < 2 ^ 32 }
     ensures kept { length room.new ≡ length room.old }
-    ensures block { IsChecked (IsBlock system.now den.now (number_at x.now) first (length room.old)) (HasWideNode system.now (number_at x.now)) result }
+    ensures block { ChecksBlock system.now den.now x.now first (length room.old) result }
 {
     clear(room);
     if !balances(system.steps.items(), x, first, room) {
         return Check::TooWide;
     }
-    if are_wanted(system, den, first, room) { Check::Yes } else { Check::No }
+    if are_wanted(system, den, first, room) {
+        Check::Yes
+    } else {
+        Check::No
+    }
 }
 
 fn are_wanted(system: &System, den: &i128, first: usize, sums: &[i128]) -> bool
@@ -74,5 +79,9 @@ fn is_wanted(system: &System, den: &i128, node: usize, sum: &i128) -> bool
     if node >= system.nodes as usize {
         return true;
     }
-    if node == system.start as usize { *sum == *den } else { *sum == 0 }
+    if node == system.start as usize {
+        *sum == *den
+    } else {
+        *sum == 0
+    }
 }

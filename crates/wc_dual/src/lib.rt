@@ -4,11 +4,21 @@
 #![tactic(auto)]
 
 mod blocks;
+mod certificates;
 mod checks;
 mod counts;
 mod laws;
+mod limits;
 mod loops;
 mod numbers;
+mod passes;
+mod prices;
+mod sources;
+mod values;
 
+pub use certificates::{check, check_at_once, check_ray};
 pub use checks::Check;
 pub use laws::{certificates_bound, walks_are_feasible};
+
+#[cfg(test)]
+mod tests;

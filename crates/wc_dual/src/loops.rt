@@ -3,6 +3,7 @@ ghost use Rattle.wc_base.specs.Sums.{chosen};
 ghost use Rattle.wc_model.specs.Flow.Counts.{IsBounded};
 ghost use Rattle.wc_model.specs.Flow.Places.{number_at};
 ghost use Rattle.wc_model.specs.Flow.Systems.{IsSystem};
+ghost use Rattle.wc_dual.specs.Inner.Clauses.{ChecksLoop, ChecksLoops};
 ghost use Rattle.wc_dual.specs.Checks.{IsChecked};
 ghost use Rattle.wc_dual.specs.Inner.Blocks.{Tells};
 ghost use Rattle.wc_dual.specs.Inner.Parts.{HasWideLoop, IsExact, IsWideLoop};
@@ -15,7 +16,7 @@ use wc_model::{System, SystemLoop};
 pub fn check_loops(system: &System, den: &i128, x: &[i128]) -> Check
     requires system { IsSystem system.now }
     requires counted { length x.now ≡ length system.now.steps }
-    ensures { IsChecked (All (IsBounded system.now.start den.now (number_at x.now)) system.now.loops) (HasWideLoop system.now den.now (number_at x.now)) result }
+    ensures { ChecksLoops system.now den.now x.now result }
 {
     for row in system.loops.items() {
         match check_loop(row, system.start, den, x) {
@@ -29,7 +30,7 @@ pub fn check_loops(system: &System, den: &i128, x: &[i128]) -> Check
 fn check_loop(row: &SystemLoop, start: u32, den: &i128, x: &[i128]) -> Check
     requires back { All (λ i. i < length x.now) row.now.back }
     requires entry { All (λ i. i < length x.now) row.now.entry }
-    ensures { IsChecked (IsBounded start den.now (number_at x.now) row.now) (IsWideLoop start den.now (number_at x.now) row.now) result }
+    ensures { ChecksLoop start den.now x.now row.now result }
 {
     let Some(back) = sum_of(row.back.items(), x) else {
         return Check::TooWide;
@@ -43,14 +44,22 @@ fn check_loop(row: &SystemLoop, start: u32, den: &i128, x: &[i128]) -> Check
     let Some(most) = allowed(row, &entries) else {
         return Check::TooWide;
     };
-    if is_most(&back, &most) { Check::Yes } else { Check::No }
+    if is_most(&back, &most) {
+        Check::Yes
+    } else {
+        Check::No
+    }
 }
 
 // one more entry where the head is the start
 fn entries_of(row: &SystemLoop, start: u32, den: &i128, entry: &i128) -> Option<i128>
     ensures { IsExact (entry.now +ℤ chosen (row.now.head == start) den.now) result }
 {
-    if row.head == start { plus(entry, den) } else { Some(*entry) }
+    if row.head == start {
+        plus(entry, den)
+    } else {
+        Some(*entry)
+    }
 }
 
 fn allowed(row: &SystemLoop, entries: &i128) -> Option<i128>
@@ -59,7 +68,7 @@ fn allowed(row: &SystemLoop, entries: &i128) -> Option<i128>
     times(&(row.bound as i128), entries)
 }
 
-fn is_most(number: &i128, most: &i128) -> bool
+pub fn is_most(number: &i128, most: &i128) -> bool
     ensures { Tells (number.now ≤ℤ most.now) result }
 {
     *number <= *most

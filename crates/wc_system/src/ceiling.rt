@@ -1,7 +1,7 @@
 ghost use Rattle.std.specs.Prelude.{◌≡◌, ◌+◌, ◌*◌, ◌<◌, ◌≤◌, ◌^◌, ℕ, All, IfOk, IfSome, Some, length, slice_get, slice_index, replicate};
 ghost use Rattle.wc_model.specs.declared.graphs.Head.{Head};
 ghost use Rattle.wc_model.specs.Flow.Ceiling.{ceiling_by, dearest};
-ghost use Rattle.wc_system.specs.Inner.Capped.{AreRounds, capped, capped_total, rounds_within};
+ghost use Rattle.wc_system.specs.Inner.Capped.{AreOuterFirst, AreRounds, HasOuter, IsCappedCeiling, capped, capped_total, rounds_within};
 
 use std::alloc::{AllocError, Global};
 use wc_model::{Head, Nest, SystemStep};
@@ -17,10 +17,10 @@ pub fn capped_ceiling(
     steps: &[SystemStep],
 ) -> Result<u128, AllocError>
     requires bounds { length bounds.now ≡ length nest.now.heads }
-    requires parents { (k : ℕ) (h : Head) → slice_get nest.now.heads k ≡ Some h → IfSome h.parent (λ j. j < k) }
+    requires parents { AreOuterFirst nest.now.heads }
     requires inside { All (λ o. IfSome o (λ k. k < length nest.now.heads)) nest.now.inside }
     requires sources { All (λ t. t.source < length nest.now.inside) steps.now }
-    ensures { IfOk result (λ n. n ≡ capped (ceiling_by nest.now bounds.now (length nest.now.inside) steps.now)) }
+    ensures { IfOk result (IsCappedCeiling nest.now bounds.now steps.now) }
 {
     let inside = nest.inside.items();
     let rounds = rounds(alloc, nest.heads.items(), bounds)?;
@@ -31,7 +31,7 @@ pub fn capped_ceiling(
 // how often the loops round a place go round, all together: one more than each bound, multiplied
 fn rounds(alloc: Global, heads: &[Head], bounds: &[u32]) -> Result<Vec<u128>, AllocError>
     requires bounds { length bounds.now ≡ length heads.now }
-    requires parents { (k : ℕ) (h : Head) → slice_get heads.now k ≡ Some h → IfSome h.parent (λ j. j < k) }
+    requires parents { AreOuterFirst heads.now }
     ensures counted { IfOk result (λ v. length v.items ≡ length heads.now) }
     ensures rounds { IfOk result (λ v. AreRounds heads.now bounds.now (length heads.now) v.items) }
 {
@@ -45,7 +45,7 @@ fn rounds(alloc: Global, heads: &[Head], bounds: &[u32]) -> Result<Vec<u128>, Al
 
 fn outer_rounds(heads: &[Head], place: usize, rounds: &[u128]) -> u128
     requires known { place < length heads.now }
-    requires parent { (h : Head) → slice_get heads.now place ≡ Some h → IfSome h.parent (λ k. k < length rounds.now) }
+    requires parent { HasOuter heads.now place rounds.now }
     ensures { (h : Head) → slice_get heads.now place ≡ Some h → result ≡ rounds_within rounds.now h.parent }
 {
     rounds_at(heads[place].parent, rounds)

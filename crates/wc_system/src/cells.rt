@@ -1,7 +1,7 @@
 ghost use Rattle.std.specs.Prelude.{◌≡◌, ◌<◌, ◌≤◌, ◌+◌, ◌-◌, ◌^◌, ◌==◌, ◌&&◌, false, if◌then◌else◌, All, IfOk, IfSome, Some, length, min, not, replicate, slice_get, slice_index, slice_index_or};
 ghost use Rattle.wc_model.specs.declared.flow_system.SystemStep.{SystemStep};
 ghost use Rattle.wc_model.specs.Flow.Cells.{first_steps, row_nodes};
-ghost use Rattle.wc_system.specs.Inner.Counted.{AreCounts, ArePassed, cells_with, enters_node, leaves_node, raised};
+ghost use Rattle.wc_system.specs.Inner.Counted.{AreCounts, ArePassed, cells_with, enters_node, leaves_node, raised, IsFirstCount};
 
 use std::alloc::{AllocError, Global};
 use wc_model::{System, SystemStep};
@@ -57,7 +57,7 @@ fn first_step(steps: &[SystemStep], place: usize, passed: &[bool]) -> u32
     requires known { place < length steps.now }
     requires sources { All (λ t. t.source < length passed.now) steps.now }
     ensures few { result ≤ 1 }
-    ensures one { (t : SystemStep) → slice_get steps.now place ≡ Some t → result ≡ (if slice_index_or passed.now t.source false then 0 else 1) }
+    ensures one { IsFirstCount steps.now passed.now place result }
 {
     one_unless(passed[steps[place].source as usize])
 }

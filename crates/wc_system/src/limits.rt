@@ -5,7 +5,7 @@ ghost use Rattle.wc_model.specs.declared.graphs.Graph.{Graph};
 ghost use Rattle.wc_model.specs.Flow.Systems.{counts_some, fact_limits, stated_limit};
 ghost use Rattle.wc_system.specs.declared.terms.Visit.{Visit};
 ghost use Rattle.wc_system.specs.Inner.Contexts.{AreContexts};
-ghost use Rattle.wc_system.specs.Inner.Terms.{visit_pairs};
+ghost use Rattle.wc_system.specs.Inner.Terms.{some_factor, visit_factors, visit_pairs};
 
 use crate::terms::{Visit, constant_of, times_at, visits_of};
 use std::alloc::{AllocError, Global};
@@ -106,7 +106,7 @@ fn factors_of(
     requires parents { AreContexts contexts.now }
     requires placed { All (λ n. n.context < length contexts.now) nodes.now }
     requires few { length nodes.now < 2 ^ 32 }
-    ensures { IfOk result (λ v. v.items ≡ filter counts_some (visit_pairs contexts.now plus.now minus.now 0 nodes.now)) }
+    ensures { IfOk result (λ v. v.items ≡ visit_factors contexts.now plus.now minus.now nodes.now) }
 {
     let mut factors = Vec::new(alloc);
     for place in 0..nodes.len() {
@@ -128,7 +128,7 @@ fn difference(plus: u128, minus: u128) -> i128
 }
 
 fn add_factor(factors: &mut Vec<(u32, i128)>, node: u32, factor: i128) -> Result<(), AllocError>
-    ensures { OnOk result (factors.new.items ≡ factors.old.items ++ filter counts_some ((node, factor) ∷ [])) }
+    ensures { OnOk result (factors.new.items ≡ factors.old.items ++ some_factor node factor) }
 {
     if factor != 0 {
         factors.push((node, factor))?;

@@ -4,7 +4,7 @@ ghost use Rattle.wc_model.specs.Flow.Systems.{constant_in, times_in};
 ghost use Rattle.wc_model.specs.Program.Positions.{Position};
 ghost use Rattle.wc_system.specs.declared.terms.Visit.{Visit};
 ghost use Rattle.wc_system.specs.Inner.Contexts.{AreContexts, position_in};
-ghost use Rattle.wc_system.specs.Inner.Terms.{IsFirstAt, visit_sum, visit_times};
+ghost use Rattle.wc_system.specs.Inner.Terms.{AddsVisits, IsFirstAt, IsTimesAt, visit_sum, visit_times};
 
 use crate::contexts::calls_fit;
 use std::alloc::{AllocError, Global};
@@ -39,7 +39,7 @@ fn gathered<'a>(alloc: Global, terms: &'a [Term]) -> Result<Vec<Visit<'a>>, Allo
 }
 
 fn add_visit<'a>(visits: &mut Vec<Visit<'a>>, term: &'a Term) -> Result<(), AllocError>
-    ensures { OnOk result ((p : Position) → visit_sum p visits.new.items ≡ visit_sum p visits.old.items + times_in p (term.now ∷ [])) }
+    ensures { OnOk result (AddsVisits term.now visits.old.items visits.new.items) }
 {
     match term {
         Term::Constant(_) => {}
@@ -84,7 +84,7 @@ fn times_of(visits: &[Visit], place: usize, contexts: &[Context], node: &Node) -
     requires inside { place < length visits.now }
     requires parents { AreContexts contexts.now }
     requires known { node.now.context < length contexts.now }
-    ensures { (v : Visit) → result ≡ visit_times (position_in contexts.now node.now) (slice_index_or visits.now place v) }
+    ensures { IsTimesAt contexts.now node.now visits.now place result }
 {
     let visit = &visits[place];
     if node.pc == visit.at && calls_fit(contexts, node.context, visit.within) {

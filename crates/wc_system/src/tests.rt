@@ -89,7 +89,8 @@ const INSIDE: [Option<u32>; 2] = [Some(0), Some(1)];
 const BACK: [bool; 4] = [false, true, true, false];
 
 fn two_loops(alloc: Global) -> Result<(Graph, Nest), AllocError>
-    ensures { IfOk result (λ w. IsGraph w.0 × IsNestShape w.0 w.1 × (length w.0.steps ≡ 4) × (length w.1.heads ≡ 2)) }
+    ensures fit { IfOk result (λ w. IsGraph w.0 × IsNestShape w.0 w.1) }
+    ensures counted { IfOk result (λ w. (length w.0.steps ≡ 4) × (length w.1.heads ≡ 2)) }
 {
     let graph = Graph {
         contexts: Table::new(CONTEXTS.to_vec(alloc)?),

@@ -3,11 +3,10 @@ ghost use Rattle.wc_model.specs.declared.flow_system.SystemLimit.{SystemLimit};
 ghost use Rattle.wc_model.specs.Flow.Ceiling.{ceiling_of};
 ghost use Rattle.wc_model.specs.Flow.Systems.{IsNestShape, IsSystem, IsSystemOf};
 ghost use Rattle.wc_model.specs.Program.Graphs.{IsGraph};
-ghost use Rattle.wc_model.specs.Workspace.Edits.{Setting};
-ghost use Rattle.wc_model.specs.Workspace.Phases.{IsTooBig, SystemOf};
-ghost use Rattle.wc_system.specs.Answers.{Answers};
+ghost use Rattle.wc_model.specs.Workspace.Phases.{IsTooBig};
+ghost use Rattle.wc_system.specs.Answers.{Answers, AnswersSystem};
 ghost use Rattle.wc_system.specs.Inner.Capped.{AreSmall, capped};
-ghost use Rattle.wc_system.specs.Inner.Unlimited.{IsLimited, with_limits};
+ghost use Rattle.wc_system.specs.Inner.Unlimited.{IsLimited, TellsSize, with_limits};
 
 use crate::ceiling::{CEILING, capped_ceiling};
 use crate::cells::cells;
@@ -35,7 +34,7 @@ pub fn system(
     requires nest { IsNestShape graph.now nest.now }
     requires bounds { length bounds.now.of ≡ length nest.now.heads }
     requires costs { length costs.now.of ≡ length graph.now.steps }
-    ensures answer { (inputs : Setting) → inputs.facts ≡ facts.now → Answers (SystemOf inputs graph.now nest.now bounds.now costs.now) result }
+    ensures answer { AnswersSystem graph.now nest.now bounds.now costs.now facts.now result }
     ensures sound { IfOk result IsSystem }
 {
     let system = unlimited(alloc, graph, nest, bounds, costs)?;
@@ -128,7 +127,7 @@ fn limited(alloc: Global, graph: &Graph, facts: &Facts, system: System) -> Resul
 fn is_too_big(alloc: Global, system: &System, limits: usize) -> Result<bool, AllocError>
     requires system { IsSystem system.now }
     requires steps { length system.now.steps < 2 ^ 32 }
-    ensures { IfOk result (λ b. (ls : List SystemLimit) → length ls ≡ limits → IsTrue b ↔ IsTooBig (with_limits system.now ls)) }
+    ensures { IfOk result (TellsSize system.now limits) }
 {
     if limits == 0 {
         return Ok(false);

@@ -1,8 +1,9 @@
 -- Numbers that stop at 2^100, from where on no function is analysed.
-use Rattle.std.specs.Prelude.{ℕ, ◌≡◌, ◌+◌, ◌≤◌, ◌<◌, ◌^◌, min, max, List, length, drop, slice_index, ◌*◌, [], ◌∷◌, Option, None, Some}
+use Rattle.std.specs.Prelude.{ℕ, ◌≡◌, ◌+◌, ◌≤◌, ◌<◌, ◌^◌, min, max, List, length, drop, slice_index, ◌*◌, [], ◌∷◌, Option, None, Some, IfSome, slice_get}
 use Rattle.wc_model.specs.declared.flow_system.SystemStep.{SystemStep}
 use Rattle.wc_model.specs.declared.graphs.Head.{Head}
-use Rattle.wc_model.specs.Flow.Ceiling.{dearest, loops_out, rounds_of}
+use Rattle.wc_model.specs.declared.graphs.Nest.{Nest}
+use Rattle.wc_model.specs.Flow.Ceiling.{ceiling_by, dearest, loops_out, rounds_of}
 
 abbrev pub capped : ℕ → ℕ
 capped n = min n (2 ^ 100)
@@ -31,3 +32,13 @@ capped_total rounds (cost ∷ costs) sum (o ∷ inside) = capped_total rounds co
 -- the bounds are numbers of 32 bits
 abbrev pub AreSmall : List ℕ → Type 0
 AreSmall bounds = (k : ℕ) → slice_index bounds k < 2 ^ 32
+
+-- a larger loop stands before those in it, and its rounds are known
+abbrev pub AreOuterFirst : List Head → Type 0
+AreOuterFirst heads = (k : ℕ) (h : Head) → slice_get heads k ≡ Some h → IfSome h.parent (λ j. j < k)
+
+abbrev pub HasOuter : List Head → ℕ → List ℕ → Type 0
+HasOuter heads place rounds = (h : Head) → slice_get heads place ≡ Some h → IfSome h.parent (λ k. k < length rounds)
+
+abbrev pub IsCappedCeiling : Nest → List ℕ → List SystemStep → ℕ → Type 0
+IsCappedCeiling nest bounds steps n = n ≡ capped (ceiling_by nest bounds (length nest.inside) steps)

@@ -1,5 +1,5 @@
 -- Counts of steps and nodes.
-use Rattle.std.specs.Prelude.{ℕ, ◌≡◌, ◌+◌, ◌*◌, ◌-◌, ◌<◌, ◌≤◌, Bool, not, ◌==◌, List, drop, length, slice_index, slice_index_or, slice_set, false, Option, None, Some}
+use Rattle.std.specs.Prelude.{ℕ, ◌≡◌, ◌+◌, ◌*◌, ◌-◌, ◌<◌, ◌≤◌, Bool, not, ◌==◌, if◌then◌else◌, List, drop, length, slice_get, slice_index, slice_index_or, slice_set, false, Option, None, Some}
 use Rattle.std.specs.List.{filter, range_with_len}
 use Rattle.wc_model.specs.declared.flow_system.System.{System}
 use Rattle.wc_model.specs.declared.flow_system.SystemStep.{SystemStep}
@@ -39,3 +39,7 @@ rows_from s first = filter (λ p. not (is_passed s p)) (range_with_len first (s.
 abbrev pub raised : Option ℕ → List ℕ → List ℕ
 raised None counts = counts
 raised (Some q) counts = slice_set counts q (slice_index counts q + 1)
+
+-- 1 for a step out of a node that isn't passed through
+abbrev pub IsFirstCount : List SystemStep → List Bool → ℕ → ℕ → Type 0
+IsFirstCount steps passed place count = (t : SystemStep) → slice_get steps place ≡ Some t → count ≡ (if slice_index_or passed t.source false then 0 else 1)

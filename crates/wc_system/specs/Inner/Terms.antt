@@ -1,8 +1,11 @@
 -- The terms of one side of a limit.
-use Rattle.std.specs.Prelude.{ℕ, ℤ, pos, ◌-ℤ◌, ◌+◌, ◌<◌, ◌≤◌, if◌then◌else◌, List, [], ◌∷◌, length, slice_index_or}
+use Rattle.std.specs.Prelude.{ℕ, ◌≡◌, ℤ, pos, ◌-ℤ◌, ◌+◌, ◌<◌, ◌≤◌, if◌then◌else◌, List, [], ◌∷◌, length, slice_index_or}
+use Rattle.std.specs.List.{filter}
 use Rattle.wc_model.specs.declared.graphs.Context.{Context}
 use Rattle.wc_model.specs.declared.graphs.Node.{Node}
+use Rattle.wc_model.specs.declared.flow_facts.Term.{Term}
 use Rattle.wc_model.specs.Flow.Bounds.{fits}
+use Rattle.wc_model.specs.Flow.Systems.{counts_some, times_in}
 use Rattle.wc_model.specs.Program.Positions.{Position}
 use Rattle.wc_system.specs.declared.terms.Visit.{Visit}
 use Rattle.wc_system.specs.Inner.Contexts.{position_in}
@@ -24,3 +27,18 @@ abbrev pub visit_pairs : List Context → List Visit → List Visit → ℕ → 
 visit_pairs contexts plus minus first [] = []
 visit_pairs contexts plus minus first (node ∷ nodes) =
     (first, pos (visit_sum (position_in contexts node) plus) -ℤ pos (visit_sum (position_in contexts node) minus)) ∷ visit_pairs contexts plus minus (first + 1) nodes
+
+-- those of factor 0 are left out
+abbrev pub some_factor : ℕ → ℤ → List (ℕ × ℤ)
+some_factor node factor = filter counts_some ((node, factor) ∷ [])
+
+abbrev pub visit_factors : List Context → List Visit → List Visit → List Node → List (ℕ × ℤ)
+visit_factors contexts plus minus nodes = filter counts_some (visit_pairs contexts plus minus 0 nodes)
+
+-- one term more
+abbrev pub AddsVisits : Term → List Visit → List Visit → Type 0
+AddsVisits term old new = (p : Position) → visit_sum p new ≡ visit_sum p old + times_in p (term ∷ [])
+
+-- how often the term at a place counts a visit of a node
+abbrev pub IsTimesAt : List Context → Node → List Visit → ℕ → ℕ → Type 0
+IsTimesAt contexts node visits place times = (v : Visit) → times ≡ visit_times (position_in contexts node) (slice_index_or visits place v)

@@ -1,5 +1,5 @@
 -- A system before and after its limits are added.
-use Rattle.std.specs.Prelude.{ℕ, ◌≡◌, List, [], Result, Ok, Err}
+use Rattle.std.specs.Prelude.{ℕ, ◌≡◌, ◌↔◌, Bool, IsTrue, List, [], Result, Ok, Err, length}
 use Rattle.std.specs.List.{flat_map}
 use Rattle.wc_base.specs.declared.faults.Fault.{Fault}
 use Rattle.wc_base.specs.declared.faults.Fault.TheVariants.{SystemLimit}
@@ -20,3 +20,7 @@ with_limits s limits = record s { limits = limits }
 abbrev pub IsLimited : Graph → List (ℕ × Fact) → System → Result System Fault → Type 0
 IsLimited graph facts s (Ok limited) = (limited ≡ with_limits s (facts_limits graph facts)) × (IsTooBig (with_limits s (facts_limits graph facts)) → ⊥)
 IsLimited graph facts s (Err fault) = (fault ≡ SystemLimit) × IsTooBig (with_limits s (facts_limits graph facts))
+
+-- whether the system is too big with so many limits
+abbrev pub TellsSize : System → ℕ → Bool → Type 0
+TellsSize s count big = (limits : List Limit) → length limits ≡ count → IsTrue big ↔ IsTooBig (with_limits s limits)

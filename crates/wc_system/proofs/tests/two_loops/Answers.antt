@@ -124,12 +124,18 @@ is_shape graph heads' inside' back nodes steps by_heads by_inside by_back =
       back_counted = sym steps;
     })))
 
-pub returns : goal.returns
-returns c =
+pub returns-clause-fit : goal.returns-clause-fit
+returns-clause-fit c =
     let contexts : c.new.result ≡ CONTEXTS = search rules in
     let nodes : c.new-2.result ≡ NODES = search rules in
     let steps : c.new-3.result ≡ STEPS = search rules in
     let loops : c.new-4.result ≡ HEADS = search rules in
     let round : c.new-5.result ≡ INSIDE = search rules in
     let back : c.new-6.result ≡ BACK = search rules in
-    (is_graph _ _ _ contexts nodes steps, is_shape _ _ _ _ (ap length nodes) (ap length steps) loops round back, ap length steps, ap length loops)
+    (is_graph _ _ _ contexts nodes steps, is_shape _ _ _ _ (ap length nodes) (ap length steps) loops round back)
+
+pub returns-clause-counted : goal.returns-clause-counted
+returns-clause-counted c =
+    let steps : c.new-3.result ≡ STEPS = search rules in
+    let loops : c.new-4.result ≡ HEADS = search rules in
+    (ap length steps, ap length loops)
