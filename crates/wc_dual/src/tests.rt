@@ -122,6 +122,50 @@ const SHORT: Numbers = Numbers {
     w: 4,
 };
 
+const HOLDING: [Numbers; 3] = [
+    FREE,
+    SHORT,
+    // halves and thirds
+    Numbers { num: 18, den: 2, x: [4, 0, 2, 2], scale: 3, u: [3, 0], w: 12, ..SHORT },
+];
+
+// Each breaks a line.
+const BROKEN: [Numbers; 20] = [
+    // the flow at the start, at the other node, and no flow at all
+    Numbers { x: [3, 0, 1, 1], ..SHORT },
+    Numbers { x: [2, 0, 1, 0], ..SHORT },
+    Numbers { num: 0, x: [0, 0, 0, 0], u: [0, 0], w: 0, ..SHORT },
+    // one round more of either loop, one visit more
+    Numbers { visits: 9, num: 19, x: [2, 5, 1, 1], ..FREE },
+    Numbers { visits: 9, num: 21, x: [3, 4, 2, 1], ..FREE },
+    Numbers { visits: 5, ..FREE },
+    // each of the four steps worth less than its cost
+    Numbers { u: [8, 4], ..FREE },
+    Numbers { v: [8, 1], ..FREE },
+    Numbers { v: [7, 2], ..FREE },
+    Numbers { u: [9, 3], ..FREE },
+    Numbers { w: 3, ..SHORT },
+    // a value of neither side
+    Numbers { num: 16, ..FREE },
+    Numbers { u: [10, 5], ..FREE },
+    // numbers below their least
+    Numbers { den: 0, num: 0, x: [0, 0, 0, 0], ..FREE },
+    Numbers { scale: 0, num: 9, u: [0, 0], w: 0, ..SHORT },
+    Numbers { x: [2, -1, 1, 1], num: 7, ..SHORT },
+    Numbers { v: [-1, 0], ..SHORT },
+    Numbers { v: [1, -1], ..SHORT },
+    Numbers { w: -1, ..FREE },
+    Numbers { den: i128::MAX, x: [0, 0, 0, 0], ..FREE },
+];
+
+// Beyond 128 bits: a balance, a difference, a product, a line.
+const WIDE: [Numbers; 4] = [
+    Numbers { x: [0, 0, i128::MAX, i128::MAX], ..FREE },
+    Numbers { u: [i128::MAX, -1], ..FREE },
+    Numbers { v: [8, i128::MAX], ..FREE },
+    Numbers { w: i128::MAX, ..FREE },
+];
+
 fn solution(alloc: Global, numbers: &Numbers) -> Result<Solution, AllocError> {
     Ok(Solution {
         num: numbers.num,
@@ -134,166 +178,25 @@ fn solution(alloc: Global, numbers: &Numbers) -> Result<Solution, AllocError> {
     })
 }
 
+// What both checks of a solution answer.
+fn answers(alloc: Global, numbers: &Numbers) -> Result<[Check; 2], AllocError> {
+    let system = two_loops(alloc, numbers.visits)?;
+    let solution = solution(alloc, numbers)?;
+    let at_once = check_at_once(alloc, &system, &solution)?;
+    Ok([check(&system, &solution), at_once])
+}
+
 #[test]
 fn a_solution_holds_as_long_as_no_line_is_broken(rt: HostRuntime) -> Result<(), Fail> {
     let alloc = rt.alloc();
-    let (yes, no, wide) = (Check::Yes, Check::No, Check::TooWide);
-    let rows = [
-        (FREE, yes),
-        (SHORT, yes),
-        // halves and thirds
-        (
-            Numbers {
-                num: 18,
-                den: 2,
-                x: [4, 0, 2, 2],
-                scale: 3,
-                u: [3, 0],
-                w: 12,
-                ..SHORT
-            },
-            yes,
-        ),
-        // the flow at the start, at the other node, and no flow at all
-        (
-            Numbers {
-                x: [3, 0, 1, 1],
-                ..SHORT
-            },
-            no,
-        ),
-        (
-            Numbers {
-                x: [2, 0, 1, 0],
-                ..SHORT
-            },
-            no,
-        ),
-        (
-            Numbers {
-                num: 0,
-                x: [0, 0, 0, 0],
-                u: [0, 0],
-                w: 0,
-                ..SHORT
-            },
-            no,
-        ),
-        // one round more of either loop, one visit more
-        (
-            Numbers {
-                visits: 9,
-                num: 19,
-                x: [2, 5, 1, 1],
-                ..FREE
-            },
-            no,
-        ),
-        (
-            Numbers {
-                visits: 9,
-                num: 21,
-                x: [3, 4, 2, 1],
-                ..FREE
-            },
-            no,
-        ),
-        (Numbers { visits: 5, ..FREE }, no),
-        // each of the four steps worth less than its cost
-        (Numbers { u: [8, 4], ..FREE }, no),
-        (Numbers { v: [8, 1], ..FREE }, no),
-        (Numbers { v: [7, 2], ..FREE }, no),
-        (Numbers { u: [9, 3], ..FREE }, no),
-        (Numbers { w: 3, ..SHORT }, no),
-        // a value of neither side
-        (Numbers { num: 16, ..FREE }, no),
-        (Numbers { u: [10, 5], ..FREE }, no),
-        // numbers below their least
-        (
-            Numbers {
-                den: 0,
-                num: 0,
-                x: [0, 0, 0, 0],
-                ..FREE
-            },
-            no,
-        ),
-        (
-            Numbers {
-                scale: 0,
-                num: 9,
-                u: [0, 0],
-                w: 0,
-                ..SHORT
-            },
-            no,
-        ),
-        (
-            Numbers {
-                x: [2, -1, 1, 1],
-                num: 7,
-                ..SHORT
-            },
-            no,
-        ),
-        (
-            Numbers {
-                v: [-1, 0],
-                ..SHORT
-            },
-            no,
-        ),
-        (
-            Numbers {
-                v: [1, -1],
-                ..SHORT
-            },
-            no,
-        ),
-        (Numbers { w: -1, ..FREE }, no),
-        // beyond 128 bits: a balance, a difference, a product, a line
-        (
-            Numbers {
-                x: [0, 0, i128::MAX, i128::MAX],
-                ..FREE
-            },
-            wide,
-        ),
-        (
-            Numbers {
-                den: i128::MAX,
-                x: [0, 0, 0, 0],
-                ..FREE
-            },
-            no,
-        ),
-        (
-            Numbers {
-                u: [i128::MAX, -1],
-                ..FREE
-            },
-            wide,
-        ),
-        (
-            Numbers {
-                v: [8, i128::MAX],
-                ..FREE
-            },
-            wide,
-        ),
-        (
-            Numbers {
-                w: i128::MAX,
-                ..FREE
-            },
-            wide,
-        ),
-    ];
-    for (numbers, wanted) in rows {
-        let system = two_loops(alloc, numbers.visits)?;
-        let solution = solution(alloc, &numbers)?;
-        assert_eq!(rt; check(&system, &solution), wanted);
-        assert_eq!(rt; check_at_once(alloc, &system, &solution)?, wanted);
+    for numbers in HOLDING {
+        assert_eq!(rt; answers(alloc, &numbers)?, [Check::Yes, Check::Yes]);
+    }
+    for numbers in BROKEN {
+        assert_eq!(rt; answers(alloc, &numbers)?, [Check::No, Check::No]);
+    }
+    for numbers in WIDE {
+        assert_eq!(rt; answers(alloc, &numbers)?, [Check::TooWide, Check::TooWide]);
     }
     Ok(())
 }
