@@ -1,15 +1,14 @@
 -- Sums of a block.
-use Rattle.std.proofs.Common.{◌≡◌, ℕ, zero, suc, ◌==◌, ◌+◌, ◌-◌, ◌<◌, ◌≤◌, ℤ, pos, ◌+ℤ◌, ◌-ℤ◌, neg_ℤ, List, [], ◌∷◌, length, set, take, get_or, slice_get, Option, Some, None, Bool, true, false, refl, sym, ap, ap₂, subst, ◌∙◌, arith}
+use Rattle.std.proofs.Common.{◌≡◌, ℕ, zero, suc, ◌==◌, ◌+◌, ◌-◌, ◌<◌, ℤ, ◌+ℤ◌, ◌-ℤ◌, neg_ℤ, List, [], ◌∷◌, length, take, slice_get, Option, Some, None, Bool, true, false, refl, sym, ap, subst, ◌∙◌, arith}
 use Rattle.std.proofs.lemmas.Bool.Decides.{nat_tests}
 use Rattle.std.proofs.lemmas.Int.{ints}
-use Rattle.std.proofs.lemmas.Option.{get_or_from_slice_get, slice_get-get_or, slice_get_within}
 use Rattle.std.specs.Bool.{MatchBool}
 use Rattle.wc_base.specs.Arithmetic.{InRange}
 use Rattle.wc_base.specs.Sums.{sum_placed, chosen}
 use Rattle.wc_model.specs.declared.flow_system.SystemStep.{SystemStep}
 use Rattle.wc_model.specs.Flow.Places.{number_at}
 use Rattle.wc_model.specs.Flow.Systems.{leads_to}
-use Rattle.wc_dual.specs.Wide.{IsOut, Leaves, balance}
+use Rattle.wc_dual.specs.Wide.{balance}
 use Rattle.wc_dual.specs.Inner.Blocks.{Adds, AreBalances, CannotAdd, CannotPut, CannotTake, IsTurn, LeavesIn, balance_of}
 
 -- One more term of a sum.

@@ -1,5 +1,5 @@
 -- A certificate, put together from its parts.
-use Rattle.std.proofs.Common.{◌≡◌, ℕ, ◌+◌, ◌<◌, ◌≤◌, ℤ, pos, ◌*ℤ◌, ◌≤ℤ◌, ◌<ℤ◌, ◌+ℤ◌, ◌⊎◌, List, length, slice_get, Option, Some, None, refl, sym, ap, subst, ⊎_elim, ◌∙◌, arith}
+use Rattle.std.proofs.Common.{◌≡◌, ℕ, ◌<◌, ℤ, pos, ◌*ℤ◌, ◌≤ℤ◌, ◌<ℤ◌, ◌+ℤ◌, ◌⊎◌, List, length, slice_get, Option, Some, None, refl, sym, ap, subst, ⊎_elim, ◌∙◌, arith}
 use Rattle.std.proofs.Math.IntN.{*ℤ-zero}
 use Rattle.std.proofs.lemmas.Int.{ints}
 use Rattle.std.proofs.lemmas.Option.{get_or_from_slice_get, slice_get_within}
@@ -19,13 +19,12 @@ use Rattle.wc_dual.specs.declared.checks.Check.{Check}
 use Rattle.wc_dual.specs.declared.checks.Check.TheVariants.{Yes, No, TooWide}
 use Rattle.wc_dual.specs.declared.prices.PriceLists.{PriceLists}
 use Rattle.wc_dual.specs.Wide.{IsWideCount, IsWideDual, IsWidePrice, IsWideRay, IsWideSolution, Leaves, IsOut}
-use Rattle.wc_dual.specs.Inner.Limits.{HasWideLimit, IsWideLimit, IsWideTerm, factor_term}
+use Rattle.wc_dual.specs.Inner.Limits.{HasWideLimit, IsWideLimit, IsWideTerm}
 use Rattle.wc_dual.specs.Inner.Lines.{ArePriced, Fit, listed}
 use Rattle.wc_dual.specs.Inner.Passes.{IsSum}
 use Rattle.wc_dual.specs.Inner.Values.{HasWideConstant, HasWideRound, HasWideValue, IsDual, constant_term, round_term, value_term}
 use Rattle.wc_dual.specs.Inner.Parts.{AreBalanced, HasWideLoop, HasWideNode, IsWideLoop}
-use Rattle.wc_dual.specs.Inner.Shapes.{AreCounts, AreEqual, AreFair, AreOfRay, AreOfSolution, AreSome, IsShaped}
-use Rattle.wc_dual.proofs.DualityLemmas.{get_all}
+use Rattle.wc_dual.specs.Inner.Shapes.{AreCounts, AreEqual, AreFair, AreOfRay, AreOfSolution, IsShaped}
 
 -- a part that doesn't say yes
 pub pass_on : {Whole Part Wide WidePart : Type 0} (c : Check) → (c ≡ Yes → ⊥) → (Whole → Part) → (WidePart → Wide) → IsChecked Part WidePart c → IsChecked Whole Wide c

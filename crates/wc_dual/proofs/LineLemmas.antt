@@ -1,5 +1,5 @@
 -- What the prices make each step of a block worth, part by part.
-use Rattle.std.proofs.Common.{◌≡◌, ℕ, suc, ◌+◌, ◌-◌, ◌<◌, ◌≤◌, ◌==◌, ℤ, pos, ◌+ℤ◌, ◌-ℤ◌, ◌*ℤ◌, ◌≤ℤ◌, neg_ℤ, List, [], ◌∷◌, length, take, set, get_or, slice_get, ◌≢◌, get_or-set_other, get_or-set_same, Option, Some, None, Bool, true, false, refl, sym, ap, subst, inl, inr, ⊎_elim, ◌∙◌, arith}
+use Rattle.std.proofs.Common.{◌≡◌, ℕ, suc, ◌+◌, ◌-◌, ◌<◌, ◌≤◌, ℤ, pos, ◌+ℤ◌, ◌-ℤ◌, ◌*ℤ◌, ◌≤ℤ◌, neg_ℤ, List, [], ◌∷◌, length, take, set, get_or, slice_get, ◌≢◌, get_or-set_other, get_or-set_same, Some, None, Bool, true, false, refl, sym, ap, subst, ⊎_elim, ◌∙◌, arith}
 use Rattle.std.proofs.lemmas.Int.{ints}
 use Rattle.std.proofs.lemmas.Option.{get_or_from_slice_get, slice_get-get_or}
 use Rattle.std.proofs.lemmas.Bool.{cases_lt}
@@ -9,15 +9,14 @@ use Rattle.wc_base.specs.Sums.{sum_placed, chosen}
 use Rattle.wc_base.proofs.SumLemmas.{sum_same}
 use Rattle.wc_model.specs.declared.flow_system.System.{System}
 use Rattle.wc_model.specs.declared.flow_system.SystemLimit.{SystemLimit}
-use Rattle.wc_model.specs.declared.flow_system.SystemLoop.{SystemLoop}
 use Rattle.wc_model.specs.declared.flow_system.SystemStep.{SystemStep}
-use Rattle.wc_model.specs.Flow.Certificates.{Prices, back_price, entry_price, factor_of, limit_price, scaled, step_price}
+use Rattle.wc_model.specs.Flow.Certificates.{Prices, back_price, entry_price, factor_of, scaled, step_price}
 use Rattle.wc_model.specs.Flow.Places.{is_listed, number_at}
 use Rattle.wc_model.specs.Flow.SystemWalks.{cost_at}
 use Rattle.wc_dual.specs.Checks.{IsChecked}
 use Rattle.wc_dual.specs.declared.checks.Check.{Check}
 use Rattle.wc_dual.specs.declared.checks.Check.TheVariants.{Yes, No, TooWide}
-use Rattle.wc_dual.specs.Wide.{IsOut, IsWidePrice, Leaves}
+use Rattle.wc_dual.specs.Wide.{IsWidePrice, Leaves}
 use Rattle.wc_dual.specs.Inner.Blocks.{Adds}
 use Rattle.wc_dual.specs.Inner.Lines.{AreLines, AreMet, ArePriced, AreStarts, HasWideBound, HasWideCost, HasWideFactor, HasWideStart, back_term, entry_term, limit_term, start_of}
 use Rattle.wc_dual.specs.Inner.Passes.{CannotSum, IsPass, added_by}

@@ -1,10 +1,9 @@
 -- Sums to which rows add terms, one row after the other.
-use Rattle.std.proofs.Common.{◌≡◌, ℕ, zero, suc, ◌+◌, ◌<◌, ◌≤◌, ℤ, pos, ◌+ℤ◌, List, [], ◌∷◌, length, take, slice_get, Option, Some, None, refl, sym, ap, subst, ◌∙◌, arith}
+use Rattle.std.proofs.Common.{◌≡◌, ℕ, zero, suc, ◌+◌, ◌<◌, ◌≤◌, ℤ, pos, ◌+ℤ◌, List, [], ◌∷◌, length, take, slice_get, Some, refl, sym, ap, subst, ◌∙◌, arith}
 use Rattle.std.proofs.lemmas.Int.{ints}
 use Rattle.wc_base.specs.Arithmetic.{InRange}
 use Rattle.wc_base.specs.Sums.{sum_placed}
 use Rattle.wc_base.proofs.SumLemmas.{sum_zero}
-use Rattle.wc_model.specs.Flow.Places.{number_at}
 use Rattle.wc_dual.specs.Wide.{IsOut, Leaves}
 use Rattle.wc_dual.specs.Inner.Blocks.{Adds, CannotAdd}
 use Rattle.wc_dual.specs.Inner.Passes.{CannotSum, added_by}

@@ -1,20 +1,18 @@
 -- One row's amounts, added place by place.
-use Rattle.std.proofs.Common.{◌≡◌, ℕ, zero, suc, ◌==◌, ◌+◌, ◌-◌, ◌<◌, ◌≤◌, ℤ, pos, ◌+ℤ◌, ◌*ℤ◌, neg_ℤ, List, [], ◌∷◌, length, map, take, slice_get, Option, Some, None, Bool, true, false, refl, sym, ap, ◌⊎◌, subst, inl, inr, ⊎_elim, ◌∙◌, arith}
+use Rattle.std.proofs.Common.{◌≡◌, ℕ, ◌==◌, ◌+◌, ◌-◌, ◌<◌, ℤ, pos, ◌+ℤ◌, ◌*ℤ◌, neg_ℤ, List, [], ◌∷◌, length, map, take, slice_get, Option, Some, None, Bool, true, false, refl, sym, ap, ◌⊎◌, subst, inl, inr, ⊎_elim, ◌∙◌, arith}
 use Rattle.std.proofs.Math.IntN.{zero-*ℤ}
-use Rattle.std.proofs.lemmas.Bool.Decides.{nat_tests}
 use Rattle.std.proofs.lemmas.Int.{ints}
 use Rattle.wc_base.specs.Arithmetic.{InRange}
 use Rattle.wc_base.specs.Sums.{sum_placed, chosen}
 use Rattle.wc_base.proofs.Products.{spread}
 use Rattle.wc_model.specs.declared.flow_system.SystemLimit.{SystemLimit}
-use Rattle.wc_model.specs.declared.flow_system.SystemLoop.{SystemLoop}
 use Rattle.wc_model.specs.declared.flow_system.SystemStep.{SystemStep}
 use Rattle.wc_model.specs.Flow.Certificates.{factor_of}
 use Rattle.wc_model.specs.Flow.Places.{IsOnce, is_listed, number_at}
 use Rattle.wc_model.specs.Flow.SystemWalks.{cost_at}
 use Rattle.wc_dual.specs.Wide.{IsOut}
 use Rattle.wc_dual.specs.Inner.Blocks.{Adds, CannotAdd, CannotPut, IsTurn}
-use Rattle.wc_dual.specs.Inner.Lines.{CannotPay, IsWideBound, IsWideFactor, pay}
+use Rattle.wc_dual.specs.Inner.Lines.{CannotPay, IsWideFactor, pay}
 use Rattle.wc_dual.specs.Inner.Passes.{IsRowTurn, added_by}
 use Rattle.wc_dual.proofs.BlockLemmas.{take_all}
 use Rattle.wc_dual.proofs.DualityLemmas.{turned}

@@ -3,7 +3,7 @@ use Rattle.std.proofs.Common.{◌≡◌, ℕ, zero, suc, ◌==◌, ◌+◌, ◌-
 use Rattle.std.proofs.lemmas.Bool.{cases_lt}
 use Rattle.std.proofs.lemmas.Bool.Decides.{nat_tests}
 use Rattle.std.proofs.lemmas.Int.{ints}
-use Rattle.std.proofs.lemmas.Option.{get_or_from_slice_get, slice_get-get_or, slice_get_within}
+use Rattle.std.proofs.lemmas.Option.{get_or_from_slice_get, slice_get-get_or}
 use Rattle.wc_base.specs.Arithmetic.{InRange}
 use Rattle.wc_base.specs.Sums.{sum_placed, chosen}
 use Rattle.wc_base.proofs.SumLemmas.{sum_zero}
@@ -11,7 +11,7 @@ use Rattle.wc_model.specs.declared.flow_system.SystemStep.{SystemStep}
 use Rattle.wc_model.specs.Flow.Counts.{out_of}
 use Rattle.wc_model.specs.Flow.Places.{number_at}
 use Rattle.wc_model.specs.Flow.SystemWalks.{cost_at}
-use Rattle.wc_dual.specs.Wide.{IsOut, Leaves}
+use Rattle.wc_dual.specs.Wide.{IsOut}
 use Rattle.wc_dual.specs.Inner.Blocks.{Adds, CannotPut}
 use Rattle.wc_dual.specs.Inner.Lines.{CannotPay, pay}
 use Rattle.wc_dual.specs.Inner.Sources.{HasAll, leaving}

@@ -1,5 +1,5 @@
 -- Which products and sums of a certificate leave the range of exact numbers, each sum added up in the order of its list.
-use Rattle.std.specs.Prelude.{ℕ, ◌≡◌, ◌<◌, ◌==◌, true, ℤ, pos, ◌+ℤ◌, ◌-ℤ◌, ◌*ℤ◌, neg_ℤ, List, take, length, slice_get, Some, Contains}
+use Rattle.std.specs.Prelude.{ℕ, ◌≡◌, ◌<◌, ◌==◌, true, ℤ, pos, ◌+ℤ◌, ◌-ℤ◌, ◌*ℤ◌, neg_ℤ, List, take, slice_get, Some, Contains}
 use Rattle.wc_base.specs.Arithmetic.{InRange}
 use Rattle.wc_base.specs.Sums.{sum_placed, chosen}
 use Rattle.wc_model.specs.declared.flow_system.Ray.{Ray}
@@ -9,7 +9,7 @@ use Rattle.wc_model.specs.declared.flow_system.SystemLimit.{SystemLimit}
 use Rattle.wc_model.specs.declared.flow_system.SystemLoop.{SystemLoop}
 use Rattle.wc_model.specs.declared.flow_system.SystemStep.{SystemStep}
 use Rattle.wc_model.specs.Flow.Certificates.{Prices, ahead_of, back_price, dual_value, entry_price, factor_of, ray_prices, scaled, solution_prices}
-use Rattle.wc_model.specs.Flow.Counts.{cycles, entered, out_of, value_of}
+use Rattle.wc_model.specs.Flow.Counts.{cycles, entered, out_of}
 use Rattle.wc_model.specs.Flow.Places.{is_listed, number_at}
 use Rattle.wc_model.specs.Flow.Systems.{leads_to}
 

@@ -126,18 +126,48 @@ const HOLDING: [Numbers; 3] = [
     FREE,
     SHORT,
     // halves and thirds
-    Numbers { num: 18, den: 2, x: [4, 0, 2, 2], scale: 3, u: [3, 0], w: 12, ..SHORT },
+    Numbers {
+        num: 18,
+        den: 2,
+        x: [4, 0, 2, 2],
+        scale: 3,
+        u: [3, 0],
+        w: 12,
+        ..SHORT
+    },
 ];
 
 // Each breaks a line.
 const BROKEN: [Numbers; 20] = [
     // the flow at the start, at the other node, and no flow at all
-    Numbers { x: [3, 0, 1, 1], ..SHORT },
-    Numbers { x: [2, 0, 1, 0], ..SHORT },
-    Numbers { num: 0, x: [0, 0, 0, 0], u: [0, 0], w: 0, ..SHORT },
+    Numbers {
+        x: [3, 0, 1, 1],
+        ..SHORT
+    },
+    Numbers {
+        x: [2, 0, 1, 0],
+        ..SHORT
+    },
+    Numbers {
+        num: 0,
+        x: [0, 0, 0, 0],
+        u: [0, 0],
+        w: 0,
+        ..SHORT
+    },
     // one round more of either loop, one visit more
-    Numbers { visits: 9, num: 19, x: [2, 5, 1, 1], ..FREE },
-    Numbers { visits: 9, num: 21, x: [3, 4, 2, 1], ..FREE },
+    Numbers {
+        visits: 9,
+        num: 19,
+        x: [2, 5, 1, 1],
+        ..FREE
+    },
+    Numbers {
+        visits: 9,
+        num: 21,
+        x: [3, 4, 2, 1],
+        ..FREE
+    },
     Numbers { visits: 5, ..FREE },
     // each of the four steps worth less than its cost
     Numbers { u: [8, 4], ..FREE },
@@ -149,21 +179,58 @@ const BROKEN: [Numbers; 20] = [
     Numbers { num: 16, ..FREE },
     Numbers { u: [10, 5], ..FREE },
     // numbers below their least
-    Numbers { den: 0, num: 0, x: [0, 0, 0, 0], ..FREE },
-    Numbers { scale: 0, num: 9, u: [0, 0], w: 0, ..SHORT },
-    Numbers { x: [2, -1, 1, 1], num: 7, ..SHORT },
-    Numbers { v: [-1, 0], ..SHORT },
-    Numbers { v: [1, -1], ..SHORT },
+    Numbers {
+        den: 0,
+        num: 0,
+        x: [0, 0, 0, 0],
+        ..FREE
+    },
+    Numbers {
+        scale: 0,
+        num: 9,
+        u: [0, 0],
+        w: 0,
+        ..SHORT
+    },
+    Numbers {
+        x: [2, -1, 1, 1],
+        num: 7,
+        ..SHORT
+    },
+    Numbers {
+        v: [-1, 0],
+        ..SHORT
+    },
+    Numbers {
+        v: [1, -1],
+        ..SHORT
+    },
     Numbers { w: -1, ..FREE },
-    Numbers { den: i128::MAX, x: [0, 0, 0, 0], ..FREE },
+    Numbers {
+        den: i128::MAX,
+        x: [0, 0, 0, 0],
+        ..FREE
+    },
 ];
 
 // Beyond 128 bits: a balance, a difference, a product, a line.
 const WIDE: [Numbers; 4] = [
-    Numbers { x: [0, 0, i128::MAX, i128::MAX], ..FREE },
-    Numbers { u: [i128::MAX, -1], ..FREE },
-    Numbers { v: [8, i128::MAX], ..FREE },
-    Numbers { w: i128::MAX, ..FREE },
+    Numbers {
+        x: [0, 0, i128::MAX, i128::MAX],
+        ..FREE
+    },
+    Numbers {
+        u: [i128::MAX, -1],
+        ..FREE
+    },
+    Numbers {
+        v: [8, i128::MAX],
+        ..FREE
+    },
+    Numbers {
+        w: i128::MAX,
+        ..FREE
+    },
 ];
 
 fn solution(alloc: Global, numbers: &Numbers) -> Result<Solution, AllocError> {

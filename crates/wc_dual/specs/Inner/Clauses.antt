@@ -1,15 +1,13 @@
 -- What the parts of a check answer.
-use Rattle.std.specs.Prelude.{ℕ, ◌≡◌, ◌+◌, ◌==◌, Bool, ℤ, pos, neg_ℤ, ◌+ℤ◌, ◌*ℤ◌, List, Option, Some, All, length, slice_get}
+use Rattle.std.specs.Prelude.{ℕ, ◌≡◌, ◌==◌, Bool, ℤ, pos, neg_ℤ, ◌+ℤ◌, ◌*ℤ◌, List, Option, Some, All, length, slice_get}
 use Rattle.std.specs.Bool.{MatchBool}
 use Rattle.wc_base.specs.Sums.{chosen}
-use Rattle.wc_model.specs.declared.flow_system.Ray.{Ray}
-use Rattle.wc_model.specs.declared.flow_system.Solution.{Solution}
 use Rattle.wc_model.specs.declared.flow_system.System.{System}
 use Rattle.wc_model.specs.declared.flow_system.SystemLimit.{SystemLimit}
 use Rattle.wc_model.specs.declared.flow_system.SystemLoop.{SystemLoop}
 use Rattle.wc_model.specs.declared.flow_system.SystemStep.{SystemStep}
-use Rattle.wc_model.specs.Flow.Certificates.{factor_of, scaled}
-use Rattle.wc_model.specs.Flow.Counts.{IsBounded, IsLimited, cycles, out_of}
+use Rattle.wc_model.specs.Flow.Certificates.{factor_of}
+use Rattle.wc_model.specs.Flow.Counts.{IsBounded, IsLimited, out_of}
 use Rattle.wc_model.specs.Flow.Places.{is_listed, number_at}
 use Rattle.wc_model.specs.Flow.SystemWalks.{cost_at}
 use Rattle.wc_model.specs.Flow.Systems.{leads_to}

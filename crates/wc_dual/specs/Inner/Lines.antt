@@ -1,5 +1,5 @@
 -- The lines of steps: what the prices make each step worth, against its cost.
-use Rattle.std.specs.Prelude.{ℕ, ◌≡◌, ◌+◌, ◌<◌, ◌≤◌, ◌==◌, ◌⊎◌, Bool, true, false, ℤ, pos, ◌+ℤ◌, ◌-ℤ◌, ◌*ℤ◌, ◌≤ℤ◌, neg_ℤ, List, Option, None, Some, length, slice_get}
+use Rattle.std.specs.Prelude.{ℕ, ◌≡◌, ◌+◌, ◌<◌, ◌≤◌, ◌==◌, ◌⊎◌, Bool, true, false, ℤ, pos, ◌-ℤ◌, ◌*ℤ◌, ◌≤ℤ◌, neg_ℤ, List, Some, length, slice_get}
 use Rattle.wc_base.specs.Sums.{chosen}
 use Rattle.wc_model.specs.declared.flow_system.System.{System}
 use Rattle.wc_model.specs.declared.flow_system.SystemLimit.{SystemLimit}

@@ -1,10 +1,9 @@
 -- The parts of a check, one row after the other.
-use Rattle.std.specs.Prelude.{ℕ, ◌≡◌, ◌+◌, ◌<◌, ◌≤◌, ◌==◌, ℤ, pos, ◌+ℤ◌, ◌-ℤ◌, ◌*ℤ◌, ◌≤ℤ◌, List, Option, None, Some, All, Contains, length, take}
-use Rattle.wc_base.specs.Sums.{sum_placed, sum_in, chosen}
+use Rattle.std.specs.Prelude.{ℕ, ◌≡◌, ◌+◌, ◌<◌, ◌≤◌, ◌==◌, ℤ, pos, ◌-ℤ◌, ◌*ℤ◌, List, Option, None, Some, Contains}
+use Rattle.wc_base.specs.Sums.{sum_in, chosen}
 use Rattle.wc_model.specs.declared.flow_system.System.{System}
 use Rattle.wc_model.specs.declared.flow_system.SystemLoop.{SystemLoop}
-use Rattle.wc_model.specs.declared.flow_system.SystemStep.{SystemStep}
-use Rattle.wc_model.specs.Flow.Counts.{IsBounded, entered, into, out_of}
+use Rattle.wc_model.specs.Flow.Counts.{entered, into, out_of}
 use Rattle.wc_model.specs.Flow.Places.{number_at}
 use Rattle.wc_dual.specs.Wide.{IsOut, Leaves, balance}
 

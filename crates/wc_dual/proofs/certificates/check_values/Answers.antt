@@ -1,4 +1,4 @@
-use Rattle.std.proofs.Common.{◌*ℤ◌, ap, rules, subst, sym, SFits, ◌∙◌}
+use Rattle.std.proofs.Common.{◌*ℤ◌, ap, rules, sym, SFits, ◌∙◌}
 use Rattle.std.proofs.lemmas.Int.{to_z-of_z}
 use mir.Syntax.{w128}
 use Rattle.wc_model.specs.Flow.Certificates.{dual_value}

@@ -1,4 +1,4 @@
-use Rattle.std.proofs.Common.{get_or, length, [], None, inl, inr, ⊎_elim, ◌≡◌, arith}
+use Rattle.std.proofs.Common.{get_or, [], inl, inr, ⊎_elim, arith}
 use Rattle.std.proofs.lemmas.Option.{slice_get-get_or}
 use Rattle.wc_model.specs.declared.flow_system.SystemLoop.{SystemLoop}
 use Rattle.wc_model.specs.Flow.Places.{number_at}

@@ -1,5 +1,4 @@
-use Rattle.std.proofs.Common.{◌≡◌, ℕ, ℤ, List, ◌*ℤ◌, neg_ℤ, pos, length, ap, inl, subst, sym, rules, SFits, ◌∙◌, arith}
-use Rattle.std.proofs.lemmas.Bool.Decides.{nat_tests}
+use Rattle.std.proofs.Common.{◌≡◌, ℕ, ℤ, List, ◌*ℤ◌, neg_ℤ, pos, length, ap, inl, subst, rules, SFits, ◌∙◌, arith}
 use Rattle.std.proofs.lemmas.Int.{to_z-of_z}
 use mir.Syntax.{w128}
 use mir.Val.{of_z, to_z}

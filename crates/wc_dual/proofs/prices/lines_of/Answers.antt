@@ -1,4 +1,4 @@
-use Rattle.std.proofs.Common.{length, refl, subst, sym, ⊎_elim, ◌∙◌, arith}
+use Rattle.std.proofs.Common.{length, subst, ⊎_elim, arith}
 use Rattle.wc_model.specs.Flow.Places.{number_at}
 use Rattle.wc_dual.specs.Inner.Blocks.{Adds}
 use Rattle.wc_dual.specs.Inner.Lines.{AreStarts, HasWideBound, HasWideFactor, HasWideStart, back_term, entry_term, limit_term, listed}

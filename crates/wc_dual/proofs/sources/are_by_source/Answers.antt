@@ -1,7 +1,4 @@
-use Rattle.std.proofs.Common.{◌≡◌, ℕ, ◌<◌, ◌≤◌, ◌-◌, length, get_or, None, ap, ⊎_elim, arith}
-use Rattle.std.proofs.lemmas.Bool.{cases_lt}
-use Rattle.std.proofs.lemmas.Option.{get_or_from_slice_get, slice_get-get_or}
-use Rattle.wc_model.specs.declared.flow_system.SystemStep.{SystemStep}
+use Rattle.std.proofs.Common.{None, arith}
 use Rattle.wc_dual.proofs.SourceLemmas.{sorted_more}
 use Rattle.wc_dual.proofs.sources.are_by_source.Goals as goal
 

@@ -1,7 +1,6 @@
-use Rattle.std.proofs.Common.{subst, sym, rules, SFits, ◌∙◌}
+use Rattle.std.proofs.Common.{rules, SFits}
 use Rattle.std.proofs.lemmas.Int.{to_z-of_z}
 use mir.Syntax.{w128}
-use Rattle.wc_model.specs.Flow.Places.{number_at}
 use Rattle.wc_dual.specs.Inner.Lines.{listed}
 use Rattle.wc_dual.proofs.CertificateLemmas.{dual_end, dual_out}
 use Rattle.wc_dual.proofs.values.dual_of.Goals as goal

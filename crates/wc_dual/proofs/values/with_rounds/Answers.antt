@@ -1,4 +1,4 @@
-use Rattle.std.proofs.Common.{get_or, [], None, pos, inl, inr, ⊎_elim, ◌∙◌, rules, SFits}
+use Rattle.std.proofs.Common.{get_or, [], inl, inr, ⊎_elim, ◌∙◌, rules, SFits}
 use Rattle.std.proofs.lemmas.Int.{to_z-of_z}
 use Rattle.std.proofs.lemmas.Option.{slice_get-get_or}
 use mir.Syntax.{w128}
