@@ -1,0 +1,10 @@
+pub mod BlockLemmas
+pub mod CertificateLemmas
+pub mod DualityLemmas
+pub mod FlowLemmas
+pub mod LineLemmas
+pub mod ListLemmas
+pub mod PassLemmas
+pub mod PayLemmas
+pub mod SourceLemmas
+pub mod WalkLemmas

@@ -1,0 +1,25 @@
+use Rattle.std.proofs.Common.{get_or, None, pos, inl, inr, ⊎_elim, ◌∙◌, rules, SFits}
+use Rattle.std.proofs.lemmas.Int.{to_z-of_z}
+use Rattle.std.proofs.lemmas.Option.{slice_get-get_or}
+use mir.Syntax.{w128}
+use Rattle.wc_model.specs.declared.flow_system.SystemStep.{SystemStep}
+use Rattle.wc_model.specs.Flow.Places.{number_at}
+use Rattle.wc_dual.specs.Inner.Values.{value_term}
+use Rattle.wc_dual.proofs.PassLemmas.{sum_next, sum_out}
+use Rattle.wc_dual.proofs.values.value_of.Goals as goal
+
+pub returns-in_default : goal.returns-in_default
+returns-in_default c =
+    let none : SystemStep = record { source = 0; target = None; cost = 0 } in
+    let row : SystemStep = get_or c.args.steps.now c.loop-place.place none in
+    let at = slice_get-get_or c.args.steps.now c.loop-place.place none c.loop-place-test.true in
+    ⊎_elim (λ wide. inl (c.loop-place.place, row, at, wide))
+    (λ out. inr (sum_out (value_term (number_at c.args.x.now)) c.args.steps.now (pos 0) c.loop-place.place row _ at c.loop-place.invariant out)) (c.in_default.ensures row at)
+
+pub loop-place-preserved : goal.loop-place-preserved
+loop-place-preserved c =
+    let none : SystemStep = record { source = 0; target = None; cost = 0 } in
+    let row : SystemStep = get_or c.args.steps.now c.loop-place.place none in
+    let at = slice_get-get_or c.args.steps.now c.loop-place.place none c.loop-place-test.true in
+    let fits : SFits w128 c.in-Some.next = search rules in
+    to_z-of_z w128 c.in-Some.next fits ∙ sum_next (value_term (number_at c.args.x.now)) c.args.steps.now (pos 0) c.loop-place.place row _ c.in-Some.next at c.loop-place.invariant (c.in-Some.ensures row at)

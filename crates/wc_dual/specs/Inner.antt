@@ -1,0 +1,9 @@
+pub mod Blocks
+pub mod Clauses
+pub mod Limits
+pub mod Lines
+pub mod Parts
+pub mod Passes
+pub mod Shapes
+pub mod Sources
+pub mod Values

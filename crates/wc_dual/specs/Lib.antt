@@ -1,0 +1,4 @@
+pub mod Checks
+pub mod Inner
+pub mod Laws
+pub mod Wide
