@@ -15,7 +15,8 @@ use Rattle.wc_model.specs.Program.Reaching.{Reaches}
 use Rattle.wc_model.specs.Program.Reaching.Reaches.{here, along}
 use Rattle.wc_fix.specs.declared.lattice.Lattice.{Ghosts}
 use Rattle.wc_fix.specs.Solved.{Alike, AllAlike, IsSolved}
-use Rattle.wc_fix.specs.Inner.Fixing.{state_at, Waits, weight, flag, work_left, Problem, IsCopy, IsJoin, IsRaised, IsLed, Solves, after_of, IsAbove, IsFixing, IsVisit, IsAt, IsBrought, IsLeading, IsReady}
+use Rattle.wc_fix.specs.Inner.Queues.{Waits, IsTaken}
+use Rattle.wc_fix.specs.Inner.Fixing.{state_at, weight, flag, work_left, Problem, IsCopy, IsJoin, IsRaised, IsLed, Solves, after_of, IsAbove, IsFixing, IsVisit, IsAt, IsBrought, IsLeading, IsReady}
 
 -- A Boolean list at one place changed.
 pub waits_set : (waiting : List Bool) (q : ℕ) → q < length waiting → Waits (set waiting q true) q

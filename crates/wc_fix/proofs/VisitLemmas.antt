@@ -15,7 +15,8 @@ use Rattle.wc_model.specs.Program.Reaching.{Reaches}
 use Rattle.wc_model.specs.Program.Reaching.Reaches.{here, along}
 use Rattle.wc_fix.specs.declared.lattice.Lattice.{Ghosts}
 use Rattle.wc_fix.specs.Solved.{Alike, AllAlike, IsSolved}
-use Rattle.wc_fix.specs.Inner.Fixing.{state_at, Waits, weight, flag, work_left, Problem, IsCopy, IsJoin, IsRaised, IsLed, Solves, after_of, IsAbove, IsFixing, IsVisit, IsAt, IsBrought, IsLeading, IsReady}
+use Rattle.wc_fix.specs.Inner.Queues.{Waits, IsTaken}
+use Rattle.wc_fix.specs.Inner.Fixing.{state_at, weight, flag, work_left, Problem, IsCopy, IsJoin, IsRaised, IsLed, Solves, after_of, IsAbove, IsFixing, IsVisit, IsAt, IsBrought, IsLeading, IsReady}
 use Rattle.wc_fix.proofs.RaisingLemmas.{waits_off, contains_head, contains_tail, contains_cons, contains_nothing, Grows, led_grows}
 
 module _ {L : Type 0} (lat : Ghosts L) (refl_of : (a : lat.State) → lat.precise a a) (trans : (a b c : lat.State) → lat.precise a b → lat.precise b c → lat.precise a c) (keeps : (a b : lat.State) (line : ℕ) → lat.precise a b → lat.precise (lat.accessed a line) (lat.accessed b line)) where

@@ -17,7 +17,7 @@ loop-step-preserved g c =
     let now = c.loop-step.self in
     let new = c.bring.new.self in
     leads_more x laws.precise_refl laws.precise_trans laws.access_keeps
-    c.args.after.now c.args.steps.now c.loop-step.step-index nowhere old.states.items old.waiting.items now.states.items now.waiting.items new.states.items new.waiting.items
+    c.args.after.now c.args.steps.now c.loop-step.step-index nowhere old.states.items old.waiting now.states.items now.waiting new.states.items new.waiting
     c.loop-step-test.true c.requires.paired c.requires.targets c.in_ok-bring.ensures c.loop-step.invariant
 
 pub returns-clause-visit : goal.returns-clause-visit
