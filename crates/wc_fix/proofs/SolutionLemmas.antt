@@ -1,22 +1,22 @@
 -- How the search begins, and that it ends with the most precise solution.
-use Rattle.std.proofs.Common.{ℕ, zero, suc, ◌≡◌, ◌≢◌, ◌<◌, ◌≤◌, ◌+◌, ◌*◌, ◌^◌, ◌⊎◌, inl, inr, ⊎_elim, Bool, true, false, List, [], ◌∷◌, Option, None, Some, IfSome, All, length, get_or, set, drop, replicate, if◌then◌else◌, refl, sym, ap, subst, ◌∙◌, arith, length-set, get_or-set_same, get_or-set_other}
+use Rattle.std.proofs.Common.{ℕ, ◌≡◌, ◌≢◌, ◌<◌, inl, ⊎_elim, Bool, true, false, List, Option, None, Some, IfSome, All, length, get_or, set, replicate, sym, ap, subst, ◌∙◌, arith, length-set, get_or-set_same, get_or-set_other}
 use Rattle.std.specs.List.{Contains, sum_by}
-use Rattle.std.proofs.lemmas.Bool.{cases_eq, cases_lt, true≢false, false≢true}
-use Rattle.std.proofs.lemmas.List.{set-get_or, get_or_past, get_or_read_under, length-replicate, at_drop_more}
+use Rattle.std.proofs.lemmas.Bool.{cases_eq, false≢true}
+use Rattle.std.proofs.lemmas.List.{length-replicate}
 use Rattle.std.proofs.lemmas.List.Elements.{All-contains, All-contains_itself, All-weaker}
 use Rattle.std.proofs.lemmas.List.Sums.{sum_by-set}
 use Rattle.std.proofs.lemmas.Option.{none-some, same_Some}
 use Rattle.wc_model.specs.declared.graphs.Step.{Step}
-use Rattle.wc_model.specs.Cache.Ages.{IsSolution, IsMostPrecise, fetched}
+use Rattle.wc_model.specs.Cache.Ages.{fetched}
 use Rattle.wc_model.specs.Flow.Ends.{step_ends}
 use Rattle.wc_model.specs.Flow.Walks.{AreStepsOf}
 use Rattle.wc_model.specs.Program.Graphs.{LeadsIn}
 use Rattle.wc_model.specs.Program.Reaching.{Reaches}
 use Rattle.wc_model.specs.Program.Reaching.Reaches.{here, along}
 use Rattle.wc_fix.specs.declared.lattice.Lattice.{Ghosts}
-use Rattle.wc_fix.specs.Solved.{Alike, AllAlike, IsSolved}
+use Rattle.wc_fix.specs.Solved.{Alike, IsSolved}
 use Rattle.wc_fix.specs.Inner.Queues.{Waits, IsTaken}
-use Rattle.wc_fix.specs.Inner.Fixing.{state_at, weight, flag, work_left, Problem, IsCopy, IsJoin, IsRaised, IsLed, Solves, after_of, IsAbove, IsFixing, IsVisit, IsAt, IsBrought, IsLeading, IsReady}
+use Rattle.wc_fix.specs.Inner.Fixing.{state_at, flag, work_left, Problem, after_of, IsAbove, IsFixing, IsReady}
 use Rattle.wc_fix.proofs.RaisingLemmas.{waits_set, waits_news, waits_within, nothing_there, no_flag, or_first}
 
 module _ {L : Type 0} (lat : Ghosts L) (refl_of : (a : lat.State) → lat.precise a a) (trans : (a b c : lat.State) → lat.precise a b → lat.precise b c → lat.precise a c) (keeps : (a b : lat.State) (line : ℕ) → lat.precise a b → lat.precise (lat.accessed a line) (lat.accessed b line)) where

@@ -1,5 +1,5 @@
 -- What holds while `solve` is at work.
-use Rattle.std.specs.Prelude.{ℕ, ◌≡◌, ◌<◌, ◌≤◌, ◌+◌, ◌*◌, ◌^◌, ◌⊎◌, Bool, true, false, List, [], ◌∷◌, Option, None, Some, IfSome, All, Contains, length, replicate, slice_index_or, slice_set, if◌then◌else◌}
+use Rattle.std.specs.Prelude.{ℕ, ◌≡◌, ◌<◌, ◌≤◌, ◌+◌, ◌*◌, ◌^◌, ◌⊎◌, Bool, true, false, List, [], Option, None, Some, IfSome, All, Contains, length, replicate, slice_index_or, slice_set, if◌then◌else◌}
 use Rattle.std.specs.List.{sum_by}
 use Rattle.wc_fix.specs.declared.fixing.Fixing.{Fixing}
 use Rattle.wc_fix.specs.declared.lattice.Lattice.{Ghosts}

@@ -1,5 +1,5 @@
-use Rattle.std.proofs.Common.{◌≡◌, ℕ, List, Bool, true, false, Option, None, Some, replicate, set, refl, sym, subst, arith}
-use Rattle.wc_fix.specs.Inner.Fixing.{IsFixing, Problem}
+use Rattle.std.proofs.Common.{refl, arith}
+use Rattle.wc_fix.specs.Inner.Fixing.{Problem}
 use Rattle.wc_fix.proofs.SolutionLemmas.{fixing_begins, fixing_ends, less_left, ready}
 use Rattle.wc_fix.proofs.most_precise.solve_steps.Goals as goal
 

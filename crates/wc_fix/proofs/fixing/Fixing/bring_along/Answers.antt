@@ -1,5 +1,4 @@
-use Rattle.std.proofs.Common.{◌≡◌, ℕ, List, [], None, false, length, drop, arith}
-use Rattle.std.specs.List.{slice_index_or}
+use Rattle.std.proofs.Common.{◌≡◌, List, [], None, false, drop, arith}
 use Rattle.std.proofs.lemmas.List.{at_drop_all}
 use Rattle.wc_model.specs.declared.graphs.Step.{Step}
 use Rattle.wc_fix.proofs.VisitLemmas.{leads_more}
