@@ -8,7 +8,7 @@ ghost use Rattle.wc_model.specs.Cache.Ages.{may_accessed, no_lines};
 use std::alloc::{AllocError, Global};
 use std::marker::Model;
 
-/// The lines that may be in a set, with ages that are at least those there. At most 8 ways; the lines are
+/// The lines that may be in a set, each with an age that it has at least. At most 8 ways; the lines are
 /// named from 0.
 #[derive(Drop)]
 pub struct May {

@@ -1,3 +1,4 @@
+pub mod QueueLemmas
 pub mod RaisingLemmas
 pub mod SolutionLemmas
 pub mod VisitLemmas

@@ -1,43 +1,52 @@
 -- How the search begins, and that it ends with the most precise solution.
-use Rattle.std.proofs.Common.{ℕ, zero, suc, ◌≡◌, ◌≢◌, ◌<◌, ◌≤◌, ◌+◌, ◌*◌, ◌^◌, ◌⊎◌, inl, inr, ⊎_elim, Bool, true, false, List, [], ◌∷◌, Option, None, Some, IfSome, All, length, get_or, set, drop, replicate, if◌then◌else◌, refl, sym, ap, subst, ◌∙◌, arith, length-set, get_or-set_same, get_or-set_other}
+use Rattle.std.proofs.Common.{ℕ, ◌≡◌, ◌≢◌, ◌<◌, inl, ⊎_elim, Bool, true, false, List, Option, None, Some, IfSome, All, length, get_or, set, replicate, sym, ap, subst, ◌∙◌, arith, length-set, get_or-set_same, get_or-set_other}
 use Rattle.std.specs.List.{Contains, sum_by}
-use Rattle.std.proofs.lemmas.Bool.{cases_eq, cases_lt, true≢false, false≢true}
-use Rattle.std.proofs.lemmas.List.{set-get_or, get_or_past, get_or_read_under, length-replicate, at_drop_more}
+use Rattle.std.proofs.lemmas.Bool.{cases_eq, false≢true}
+use Rattle.std.proofs.lemmas.List.{length-replicate}
 use Rattle.std.proofs.lemmas.List.Elements.{All-contains, All-contains_itself, All-weaker}
 use Rattle.std.proofs.lemmas.List.Sums.{sum_by-set}
 use Rattle.std.proofs.lemmas.Option.{none-some, same_Some}
 use Rattle.wc_model.specs.declared.graphs.Step.{Step}
-use Rattle.wc_model.specs.Cache.Ages.{IsSolution, IsMostPrecise, fetched}
+use Rattle.wc_model.specs.Cache.Ages.{fetched}
 use Rattle.wc_model.specs.Flow.Ends.{step_ends}
 use Rattle.wc_model.specs.Flow.Walks.{AreStepsOf}
 use Rattle.wc_model.specs.Program.Graphs.{LeadsIn}
 use Rattle.wc_model.specs.Program.Reaching.{Reaches}
 use Rattle.wc_model.specs.Program.Reaching.Reaches.{here, along}
 use Rattle.wc_fix.specs.declared.lattice.Lattice.{Ghosts}
-use Rattle.wc_fix.specs.Solved.{Alike, AllAlike, IsSolved}
-use Rattle.wc_fix.specs.Inner.Fixing.{state_at, Waits, weight, flag, work_left, Problem, IsCopy, IsJoin, IsRaised, IsLed, Solves, after_of, IsAbove, IsFixing, IsVisit, IsAt, IsBrought, IsLeading, IsReady}
+use Rattle.wc_fix.specs.Solved.{Alike, IsSolved}
+use Rattle.wc_fix.specs.Inner.Queues.{Waits, IsTaken}
+use Rattle.wc_fix.specs.Inner.Fixing.{state_at, flag, work_left, Problem, after_of, IsAbove, IsFixing, IsReady}
 use Rattle.wc_fix.proofs.RaisingLemmas.{waits_set, waits_news, waits_within, nothing_there, no_flag, or_first}
 
 module _ {L : Type 0} (lat : Ghosts L) (refl_of : (a : lat.State) → lat.precise a a) (trans : (a b c : lat.State) → lat.precise a b → lat.precise b c → lat.precise a c) (keeps : (a b : lat.State) (line : ℕ) → lat.precise a b → lat.precise (lat.accessed a line) (lat.accessed b line)) where
-  -- a node that waits can be looked at
-  pub ready : (problem : Problem L) (states : List (Option L)) (waiting : List Bool) (node : ℕ) (own : List Step) → IsFixing lat problem states waiting (λ _. ⊥) → Waits waiting node
+  -- a node that waited can be looked at
+  pub ready : (problem : Problem L) (states : List (Option L)) (before waiting : List Bool) (node : ℕ) (own : List Step) → IsFixing lat problem states before (λ _. ⊥) → IsTaken node before waiting
       → AreStepsOf step_ends problem.steps node own → All (λ s. IfSome s.target (λ q. q < problem.nodes)) problem.steps → length problem.access ≡ problem.nodes → All (λ x. IfSome x (λ line. line < lat.lines problem.first)) problem.access
       → IsReady lat states waiting node own (get_or problem.access node None)
-  ready problem states waiting node own fixing waits leave targets count fit =
-      let a = fixing.known node waits in
+  ready problem states before waiting node own fixing taken leave targets count fit =
+      let a = fixing.known node taken.0 in
       let alike : Alike lat problem.first a.0 = fixing.same node a.0 a.1 in
-      let within : node < length problem.access = omega (arith, fixing.flagged, waits_within waiting node waits, count) in
+      let inside_before : node < length before = waits_within before node taken.0 in
+      let within : node < length problem.access = omega (arith, fixing.flagged, inside_before, count) in
       let inside : (s : Step) → Contains own s → IfSome s.target (λ q. q < length states) = λ s among.
       subst (λ (n : ℕ). IfSome s.target (λ q. q < n)) (sym fixing.counted) (All-contains (λ (t : Step). IfSome t.target (λ q. q < problem.nodes)) problem.steps s targets (leave.inside s among).0) in
       record {
-        counted = fixing.flagged ∙ sym fixing.counted;
-        waits = waits;
+        counted = ap length taken.1 ∙ length-set before node false ∙ fixing.flagged ∙ sym fixing.counted;
+        within = omega (arith, inside_before, fixing.flagged, fixing.counted);
         held = a.0;
         holds = a.1;
         fits = subst (λ (n : ℕ). IfSome (get_or problem.access node None) (λ line. line < n)) (sym alike.1) (fit node None within);
         same = λ p b there. let other = fixing.same p b there in (other.0 ∙ sym alike.0, other.1 ∙ sym alike.1);
         targets = All-weaker (Contains own) (λ (s : Step). IfSome s.target (λ q. q < length states)) inside own (All-contains_itself own);
       }
+
+  -- one node less waits
+  pub less_left : (states : List (Option L)) (before waiting : List Bool) (node : ℕ) → IsTaken node before waiting → work_left lat states waiting < work_left lat states before
+  less_left states before waiting node taken =
+      let within : node < length before = waits_within before node taken.0 in
+      let less = sum_by-set flag before node false false within in
+      omega (arith, less, ap flag taken.0, ap (sum_by flag) taken.1)
 
   -- at first the start alone has a state, and waits
   pub fixing_begins : (problem : Problem L) → problem.start < problem.nodes

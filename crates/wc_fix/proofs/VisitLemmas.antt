@@ -1,21 +1,15 @@
 -- A node is looked at: what is brought along its steps.
-use Rattle.std.proofs.Common.{ℕ, zero, suc, ◌≡◌, ◌≢◌, ◌<◌, ◌≤◌, ◌+◌, ◌*◌, ◌^◌, ◌⊎◌, inl, inr, ⊎_elim, Bool, true, false, List, [], ◌∷◌, Option, None, Some, IfSome, All, length, get_or, set, drop, replicate, if◌then◌else◌, refl, sym, ap, subst, ◌∙◌, arith, length-set, get_or-set_same, get_or-set_other}
-use Rattle.std.specs.List.{Contains, sum_by}
-use Rattle.std.proofs.lemmas.Bool.{cases_eq, cases_lt, true≢false, false≢true}
-use Rattle.std.proofs.lemmas.List.{set-get_or, get_or_past, get_or_read_under, length-replicate, at_drop_more}
-use Rattle.std.proofs.lemmas.List.Elements.{All-contains, All-contains_itself, All-weaker}
-use Rattle.std.proofs.lemmas.List.Sums.{sum_by-set}
+use Rattle.std.proofs.Common.{ℕ, ◌≡◌, ◌≢◌, ◌<◌, ◌+◌, ◌⊎◌, inl, inr, ⊎_elim, Bool, false, List, [], ◌∷◌, Option, None, Some, IfSome, All, length, get_or, set, drop, refl, sym, ap, subst, ◌∙◌, arith, length-set, get_or-set_other}
+use Rattle.std.specs.List.{Contains}
+use Rattle.std.proofs.lemmas.Bool.{cases_eq}
+use Rattle.std.proofs.lemmas.List.{at_drop_more}
 use Rattle.std.proofs.lemmas.Option.{none-some, same_Some}
 use Rattle.wc_model.specs.declared.graphs.Step.{Step}
-use Rattle.wc_model.specs.Cache.Ages.{IsSolution, IsMostPrecise, fetched}
-use Rattle.wc_model.specs.Flow.Ends.{step_ends}
-use Rattle.wc_model.specs.Flow.Walks.{AreStepsOf}
-use Rattle.wc_model.specs.Program.Graphs.{LeadsIn}
-use Rattle.wc_model.specs.Program.Reaching.{Reaches}
-use Rattle.wc_model.specs.Program.Reaching.Reaches.{here, along}
+use Rattle.wc_model.specs.Cache.Ages.{fetched}
 use Rattle.wc_fix.specs.declared.lattice.Lattice.{Ghosts}
-use Rattle.wc_fix.specs.Solved.{Alike, AllAlike, IsSolved}
-use Rattle.wc_fix.specs.Inner.Fixing.{state_at, Waits, weight, flag, work_left, Problem, IsCopy, IsJoin, IsRaised, IsLed, Solves, after_of, IsAbove, IsFixing, IsVisit, IsAt, IsBrought, IsLeading, IsReady}
+use Rattle.wc_fix.specs.Solved.{Alike, AllAlike}
+use Rattle.wc_fix.specs.Inner.Queues.{Waits}
+use Rattle.wc_fix.specs.Inner.Fixing.{state_at, Problem, after_of, IsAbove, IsFixing, IsVisit, IsAt, IsBrought, IsLeading}
 use Rattle.wc_fix.proofs.RaisingLemmas.{waits_off, contains_head, contains_tail, contains_cons, contains_nothing, Grows, led_grows}
 
 module _ {L : Type 0} (lat : Ghosts L) (refl_of : (a : lat.State) → lat.precise a a) (trans : (a b c : lat.State) → lat.precise a b → lat.precise b c → lat.precise a c) (keeps : (a b : lat.State) (line : ℕ) → lat.precise a b → lat.precise (lat.accessed a line) (lat.accessed b line)) where

@@ -1,11 +1,11 @@
-ghost use Rattle.std.specs.Prelude.{◌≡◌, ◌<◌, ◌≤◌, IfOk, IfSome, MatchOption, None, length, replicate};
-ghost use Rattle.wc_fix.specs.Inner.Fixing.{AddsNoWork, AreIdle, Brings, Follows, IsBegun, IsIdle, IsPaired};
-ghost use Rattle.wc_fix.specs.Inner.Fixing.{IsRaised, KeepsFixing, LeadInside, Leads, LeavesLess, Ready, Waits};
-ghost use Rattle.wc_fix.specs.Inner.Fixing.{state_at};
+ghost use Rattle.std.specs.Prelude.{◌≡◌, ◌<◌, IfOk, IfSome, None, length, replicate};
+ghost use Rattle.wc_fix.specs.Inner.Fixing.{AddsNoWork, Brings, Follows, IsBegun, IsPaired, IsRaised};
+ghost use Rattle.wc_fix.specs.Inner.Fixing.{KeepsFixing, LeadInside, Leads, Ready, state_at};
 ghost use Rattle.wc_fix.specs.Solved.{Alike, AllAlike};
 ghost use Rattle.wc_model.specs.Cache.Ages.{fetched};
 
 use crate::Lattice;
+use crate::waiting::Waiting;
 use std::alloc::{AllocError, Global};
 use wc_model::Step;
 
@@ -36,51 +36,23 @@ fn after_fetch<L: Lattice>(state: &L, line: Option<u32>) -> Result<L, AllocError
     Ok(after)
 }
 
-// The states so far, and the nodes whose states changed since they were looked at. The least of these is at
-// least `from`.
+// The states so far, and the nodes whose states changed since they were looked at.
 #[derive(Drop)]
 pub struct Fixing<L> {
     pub states: Vec<Option<L>>,
-    pub waiting: Vec<bool>,
-    pub from: usize,
-}
-
-// The first node that waits, from one place to another.
-fn waits_between(waiting: &[bool], from: usize, to: usize) -> Option<usize>
-    requires { to ≤ length waiting.now }
-    ensures { MatchOption result (AreIdle waiting.now from to) (Waits waiting.now) }
-{
-    for node in from..to {
-        if waiting[node] {
-            return Some(node);
-        }
-    }
-    None
+    pub waiting: Waiting,
 }
 
 impl<L: Lattice> Fixing<L> {
-    pub fn next(&self) -> Option<usize>
-        ensures { MatchOption result (IsIdle self.now.waiting.items) (Waits self.now.waiting.items) }
-    {
-        let nodes = self.waiting.len();
-        match waits_between(&self.waiting, self.from, nodes) {
-            Some(node) => Some(node),
-            None => waits_between(&self.waiting, 0, nodes),
-        }
-    }
-
     // What is brought to a node.
     fn lead(&mut self, target: u32, after: &L) -> Result<(), AllocError>
         requires states { target < length self.old.states.items }
-        requires waiting { target < length self.old.waiting.items }
+        requires waiting { target < length self.old.waiting }
         requires alike { IfSome (state_at self.old.states.items target) (Alike ⟦<L as Lattice>⟧ after.now) }
         ensures { IfOk result (λ _. Leads ⟦<L as Lattice>⟧ target after.now self.old self.new) }
     {
         if raise(&mut self.states[target as usize], after)? {
-            self.waiting[target as usize] = true;
-            if self.from > target as usize {
-                self.from = target as usize;
-            }
+            self.waiting.add(target)?;
         }
         Ok(())
     }
@@ -112,14 +84,12 @@ impl<L: Lattice> Fixing<L> {
         Ok(())
     }
 
-    /// A node that waits is looked at.
+    /// A node that waited is looked at.
     pub fn visit(&mut self, steps: &[Step], node: u32, line: Option<u32>) -> Result<(), AllocError>
         requires { Ready ⟦<L as Lattice>⟧ self.old node steps.now line }
-        ensures fixing { IfOk result (λ _. KeepsFixing ⟦<L as Lattice>⟧ node steps.now line self.old self.new) }
-        ensures work { IfOk result (λ _. LeavesLess ⟦<L as Lattice>⟧ self.old self.new) }
+        ensures kept { IfOk result (λ _. KeepsFixing ⟦<L as Lattice>⟧ node steps.now line self.old self.new) }
+        ensures work { IfOk result (λ _. AddsNoWork ⟦<L as Lattice>⟧ self.old self.new) }
     {
-        self.waiting[node as usize] = false;
-        self.from = node as usize + 1;
         if let Some(state) = &self.states[node as usize] {
             let after = after_fetch(state, line)?;
             self.bring_along(steps, &after)?;
@@ -133,14 +103,10 @@ impl<L: Lattice> Fixing<L> {
         ensures { IfOk result (IsBegun nodes start first) }
     {
         let mut states = no_states(alloc, nodes)?;
-        let mut waiting = vec![in alloc; false; nodes as usize]?;
+        let mut waiting = Waiting::new(alloc, nodes)?;
         states[start as usize] = Some(first);
-        waiting[start as usize] = true;
-        Ok(Fixing {
-            states,
-            waiting,
-            from: start as usize,
-        })
+        waiting.add(start)?;
+        Ok(Fixing { states, waiting })
     }
 }
 

@@ -5,6 +5,7 @@
 mod fixing;
 mod lattice;
 mod most_precise;
+mod waiting;
 
 pub use lattice::Lattice;
 pub use most_precise::solve;

@@ -52,9 +52,9 @@ pub fn solve_steps<L: Lattice>(
 {
     let starts = starts(alloc, nodes, steps)?;
     let mut fixing = Fixing::new(alloc, nodes, start, first)?;
-    while let Some(node) = fixing.next() {
-        let own = steps_from(steps, &starts, node as u32);
-        fixing.visit(own, node as u32, access[node])?;
+    while let Some(node) = fixing.waiting.next() {
+        let own = steps_from(steps, &starts, node);
+        fixing.visit(own, node, access[node as usize])?;
     }
     Ok(fixing.states)
 }

@@ -1,8 +1,9 @@
 -- What holds while `solve` is at work.
-use Rattle.std.specs.Prelude.{ℕ, ◌≡◌, ◌<◌, ◌≤◌, ◌+◌, ◌*◌, ◌^◌, ◌⊎◌, Bool, true, false, List, [], ◌∷◌, Option, None, Some, IfSome, All, Contains, length, replicate, slice_index_or, slice_set, if◌then◌else◌}
+use Rattle.std.specs.Prelude.{ℕ, ◌≡◌, ◌<◌, ◌≤◌, ◌+◌, ◌*◌, ◌^◌, ◌⊎◌, Bool, true, false, List, [], Option, None, Some, IfSome, All, Contains, length, replicate, slice_index_or, slice_set, if◌then◌else◌}
 use Rattle.std.specs.List.{sum_by}
 use Rattle.wc_fix.specs.declared.fixing.Fixing.{Fixing}
 use Rattle.wc_fix.specs.declared.lattice.Lattice.{Ghosts}
+use Rattle.wc_fix.specs.Inner.Queues.{Waits, IsTaken}
 use Rattle.wc_fix.specs.Orders.{IsLeast}
 use Rattle.wc_fix.specs.Solved.{Alike, AllAlike}
 use Rattle.wc_model.specs.declared.graphs.Step.{Step}
@@ -12,16 +13,6 @@ use Rattle.wc_model.specs.Flow.Walks.{AreStepsOf}
 
 abbrev pub state_at : {L : Type 0} → List (Option L) → ℕ → Option L
 state_at states p = slice_index_or states p None
-
-abbrev pub Waits : List Bool → ℕ → Type 0
-Waits waiting p = slice_index_or waiting p false ≡ true
-
--- no node waits, from one place to another
-abbrev pub AreIdle : List Bool → ℕ → ℕ → Type 0
-AreIdle waiting from to = (p : ℕ) → from ≤ p → p < to → slice_index_or waiting p false ≡ false
-
-abbrev pub IsIdle : List Bool → Type 0
-IsIdle waiting = (p : ℕ) → slice_index_or waiting p false ≡ false
 
 -- The work that is left: each change of a state lowers its weight, and lets its node wait at most once more.
 abbrev pub weight : {L : Type 0} → Ghosts L → Option L → ℕ
@@ -110,7 +101,7 @@ module _ {L : Type 0} (lat : Ghosts L) where
   -- what a visit needs
   pub record IsReady (states : List (Option L)) (waiting : List Bool) (node : ℕ) (own : List Step) (its_line : Option ℕ) : Type 0 where
     pub counted : length waiting ≡ length states
-    pub waits : Waits waiting node
+    pub within : node < length states
     pub held : L
     pub holds : state_at states node ≡ Some held
     pub fits : IfSome its_line (λ line. line < lat.lines held)
@@ -128,40 +119,39 @@ module _ {L : Type 0} (lat : Ghosts L) where
 
   -- What the methods of `Fixing` need and do.
   abbrev pub Ready : Fixing L → ℕ → List Step → Option ℕ → Type 0
-  Ready f node own line = IsReady f.states.items f.waiting.items node own line
+  Ready f node own line = IsReady f.states.items f.waiting node own line
 
   abbrev pub Leads : ℕ → L → Fixing L → Fixing L → Type 0
-  Leads target after old new = IsLed target after old.states.items old.waiting.items new.states.items new.waiting.items
+  Leads target after old new = IsLed target after old.states.items old.waiting new.states.items new.waiting
 
   abbrev pub Brings : Option ℕ → L → Fixing L → Fixing L → Type 0
-  Brings target after old new = IsBrought target after old.states.items old.waiting.items new.states.items new.waiting.items
+  Brings target after old new = IsBrought target after old.states.items old.waiting new.states.items new.waiting
 
   -- all steps in `own` are followed
   abbrev pub Follows : L → List Step → Fixing L → Fixing L → Type 0
   Follows above own old new =
-      (problem : Problem L) (node : ℕ) → IsVisit problem node above own old.states.items old.waiting.items → IsVisit problem node above [] new.states.items new.waiting.items
+      (problem : Problem L) (node : ℕ) → IsVisit problem node above own old.states.items old.waiting → IsVisit problem node above [] new.states.items new.waiting
 
+  -- before the visit `node` waited
   abbrev pub KeepsFixing : ℕ → List Step → Option ℕ → Fixing L → Fixing L → Type 0
   KeepsFixing node own line old new =
-      (problem : Problem L) → IsAt problem node own line → IsFixing problem old.states.items old.waiting.items (λ _. ⊥) → IsFixing problem new.states.items new.waiting.items (λ _. ⊥)
+      (problem : Problem L) (before : List Bool) → IsAt problem node own line → IsTaken node before old.waiting → IsFixing problem old.states.items before (λ _. ⊥)
+      → IsFixing problem new.states.items new.waiting (λ _. ⊥)
 
   abbrev pub work_of : Fixing L → ℕ
-  work_of f = work_left lat f.states.items f.waiting.items
+  work_of f = work_left lat f.states.items f.waiting
 
   abbrev pub AddsNoWork : Fixing L → Fixing L → Type 0
   AddsNoWork old new = work_of new ≤ work_of old
 
-  abbrev pub LeavesLess : Fixing L → Fixing L → Type 0
-  LeavesLess old new = work_of new < work_of old
-
 -- the start alone has a state, and waits
 pub record IsBegun {L : Type 0} (nodes start : ℕ) (first : L) (f : Fixing L) : Type 0 where
   pub states : f.states.items ≡ slice_set (replicate nodes None) start (Some first)
-  pub waiting : f.waiting.items ≡ slice_set (replicate nodes false) start true
+  pub waiting : f.waiting ≡ slice_set (replicate nodes false) start true
 
 -- both lists have an item for each node
 abbrev pub IsPaired : {L : Type 0} → Fixing L → Type 0
-IsPaired f = length f.waiting.items ≡ length f.states.items
+IsPaired f = length f.waiting ≡ length f.states.items
 
 -- each step leads to a node, or to the exit
 abbrev pub LeadInside : {L : Type 0} → Fixing L → List Step → Type 0

@@ -1,5 +1,4 @@
-use Rattle.std.proofs.Common.{◌≡◌, ℕ, List, [], None, false, length, drop, arith}
-use Rattle.std.specs.List.{slice_index_or}
+use Rattle.std.proofs.Common.{◌≡◌, List, [], None, false, drop, arith}
 use Rattle.std.proofs.lemmas.List.{at_drop_all}
 use Rattle.wc_model.specs.declared.graphs.Step.{Step}
 use Rattle.wc_fix.proofs.VisitLemmas.{leads_more}
@@ -17,7 +16,7 @@ loop-step-preserved g c =
     let now = c.loop-step.self in
     let new = c.bring.new.self in
     leads_more x laws.precise_refl laws.precise_trans laws.access_keeps
-    c.args.after.now c.args.steps.now c.loop-step.step-index nowhere old.states.items old.waiting.items now.states.items now.waiting.items new.states.items new.waiting.items
+    c.args.after.now c.args.steps.now c.loop-step.step-index nowhere old.states.items old.waiting now.states.items now.waiting new.states.items new.waiting
     c.loop-step-test.true c.requires.paired c.requires.targets c.in_ok-bring.ensures c.loop-step.invariant
 
 pub returns-clause-visit : goal.returns-clause-visit
