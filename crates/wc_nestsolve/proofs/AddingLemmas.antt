@@ -1,7 +1,7 @@
 -- The rounds of one loop are counted: what fits, and what the counts are.
 use Rattle.std.proofs.Common.{◌≡◌, ℕ, zero, suc, ◌==◌, ◌+◌, ◌*◌, ◌-◌, ◌<◌, ◌≤◌, ◌^◌, ◌⊎◌, inl, inr, ℤ, pos, ◌+ℤ◌, ◌*ℤ◌, ◌≤ℤ◌, List, [], ◌∷◌, map, length, slice_index, slice_get, get_or, Option, Some, None, Bool, true, false, if◌then◌else◌, refl, sym, ap, ap₂, subst, ◌∙◌, arith, lit<}
 use Rattle.std.proofs.lemmas.Int.{ints}
-use Rattle.std.proofs.lemmas.Option.{get_or_from_slice_get, slice_get-get_or, slice_get_within}
+use Rattle.std.proofs.lemmas.Option.{get_or_from_slice_get, same_Some, slice_get-get_or, slice_get_within}
 use Rattle.std.specs.Prelude.{All}
 use Rattle.std.specs.List.{sum_by}
 use Rattle.wc_base.specs.Sums.{chosen}
@@ -23,6 +23,7 @@ use Rattle.wc_nestsolve.proofs.ClassLemmas.{down_filter}
 use Rattle.wc_nestsolve.proofs.CountLemmas.{counts_after, counts_skip, entered_low, rounds_fit}
 use Rattle.wc_nestsolve.proofs.RoundsLemmas.{class_into, class_is, head_known, loop_within}
 use Rattle.wc_nestsolve.proofs.SeenLemmas.{trail_once}
+use Rattle.wc_nestsolve.proofs.SmallLemmas.{count_small, prefix_small}
 use Rattle.wc_nestsolve.proofs.TrailLemmas.{walk_trail}
 
 -- the places of a way are steps
@@ -96,13 +97,38 @@ module _ (nest : Nest) (s : System) (w : Ways) (ways : AreWays s nest w) (place 
   walk_places some walk is = subst (λ n. All (λ i. i < n) walk) (sym old.counted) (trail_places s nest (Some f.own.head) Inside f.extra f.own.head (slice_index v place) walk (round_trail some walk is))
 
   pub rounds_added : 0 < slice_index v place → (walk new : List ℕ) → walk ≡ walk_from s nest best (length class) (Some f.own.head) → IsAdded walk (f.own.bound * entered_times f.own s.start x) x new → AreCounts s nest v value (place + 1) new
-  rounds_added some walk new is added = counts_after s nest ways.solvable.nested ways.solvable.sound v value place f.own f.here loops bound_is x old f.extra class down stands f.charged known (slice_index v place) walk refl (round_trail some walk is) new added
+  rounds_added some walk new is added = counts_after s nest ways.solvable.nested ways.solvable.sound v value place f.own f.here loops bound_is known x old f.extra class down stands f.charged (slice_index v place) walk refl (round_trail some walk is) new added
 
   pub rounds_skipped : slice_index v place ≡ 0 → AreCounts s nest v value (place + 1) x
-  rounds_skipped none = counts_skip s nest ways.solvable.nested ways.solvable.sound v value place f.own f.here loops bound_is x old none
+  rounds_skipped none = counts_skip s nest ways.solvable.nested ways.solvable.sound v value place f.own f.here loops bound_is known x old none
 
   pub entries_low : entered_times f.own s.start x ≤ rounds_in nest (bounds_of s) 0 place f.own.head
-  entries_low = entered_low s nest ways.solvable.nested ways.solvable.sound v value place f.own f.here loops bound_is x old known
+  entries_low = entered_low s nest ways.solvable.nested ways.solvable.sound v value place f.own f.here loops bound_is known x old
 
   pub times_low : f.own.bound * entered_times f.own s.start x ≤ rounds_in nest (bounds_of s) 0 (place + 1) f.own.head
-  times_low = rounds_fit s nest ways.solvable.nested ways.solvable.sound v value place f.own f.here loops bound_is x old known
+  times_low = rounds_fit s nest ways.solvable.nested ways.solvable.sound v value place f.own f.here loops bound_is known x old
+
+  -- what the code adds and multiplies fits
+  module _ (l : SystemLoop) (at : slice_get s.loops place ≡ Some l) where
+    own_is : f.own ≡ l
+    own_is = same_Some f.own l (sym f.here ∙ at)
+
+    pub entries_fit : sum_by (slice_index x) l.entry < 2 ^ 127
+    entries_fit =
+        let big : 2 ^ 100 < 2 ^ 127 = lit< tt in
+        omega (arith, big, entries_low, prefix_small nest s ways.solvable w.order.items ways.order place f.own.head (omega (arith, within)) known, ap (λ o. sum_by (slice_index x) o.entry) own_is)
+
+    pub times_small : l.bound * entered_times l s.start x < 2 ^ 100
+    times_small = omega (arith, times_low, prefix_small nest s ways.solvable w.order.items ways.order (place + 1) f.own.head (omega (arith, within)) known, ap (λ o. o.bound * entered_times o s.start x) own_is)
+
+    pub rooms : (times : ℕ) → times ≡ l.bound * entered_times l s.start x → AreRoomy times x
+    rooms times is k inside =
+        let big : 2 ^ 101 < 2 ^ 127 = lit< tt in
+        let twice : 2 ^ 101 ≡ 2 ^ 100 + 2 ^ 100 = omega arith in
+        omega (arith, big, twice, is, times_small, count_small nest s ways.solvable w.order.items ways.order v value place x old (omega (arith, within)) k inside)
+
+    pub way_is : (walk : List ℕ) (class' : List ℕ) → class' ≡ class → walk ≡ walk_from s nest best (length class') (Some l.head) → walk ≡ walk_from s nest best (length class) (Some f.own.head)
+    way_is walk class' same is = is ∙ ap (λ xs. walk_from s nest best (length xs) (Some l.head)) same ∙ sym (ap (λ o. walk_from s nest best (length class) (Some o.head)) own_is)
+
+    pub added_is : (walk new : List ℕ) (times : ℕ) → times ≡ l.bound * entered_times l s.start x → IsAdded walk times x new → IsAdded walk (f.own.bound * entered_times f.own s.start x) x new
+    added_is walk new times is added = subst (λ n. IsAdded walk n x new) (is ∙ sym (ap (λ o. o.bound * entered_times o s.start x) own_is)) added

@@ -15,7 +15,7 @@ use Rattle.wc_model.specs.Flow.Places.{is_listed}
 use Rattle.wc_nestsolve.specs.Inner.Nested.{lies}
 use Rattle.wc_nestsolve.specs.Inner.Orders.{IsDownOrder}
 use Rattle.wc_nestsolve.specs.Inner.Passes.{bounds_of, factor, rounds_in, worth_in}
-use Rattle.wc_nestsolve.specs.Solvable.{IsSolvable}
+use Rattle.wc_nestsolve.specs.Inner.Solvable.{IsSolvable}
 use Rattle.wc_nestsolve.proofs.ClassLemmas.{filter_from, filter_into, not_above, parent_before}
 use Rattle.wc_nestsolve.proofs.WeightLemmas.{same_by, test_apart, test_same}
 
@@ -179,6 +179,20 @@ module _ (nest : Nest) (s : System) (is : IsSolvable nest s) where
       let two = sum_range (worth_in s nest 0) s.nodes 0 order of.down.once (λ i p at. (omega arith, omega (arith, of.known i p at))) in
       let three : total (worth_in s nest 0) (range_with_len 0 s.nodes) ≡ ceiling_of nest s = total_le (worth_in s nest 0) (node_ceiling nest (bounds_of s) s.steps) s.nodes 0 (λ q less. node_worth q (omega arith)) in
       omega (arith, one, two, three, is.below)
+
+  -- an order has no more members than there are nodes
+  pub order_few : (order : List ℕ) → IsDownOrder s nest order → length order ≤ s.nodes
+  order_few order of =
+      let low = sum_range (λ q. 1) s.nodes 0 order of.down.once (λ i p at. (omega arith, omega (arith, of.known i p at))) in
+      omega (arith, low, ones order, range_ones s.nodes 0)
+    where
+      ones : (xs : List ℕ) → total (λ q. 1) xs ≡ length xs
+      ones [] = refl
+      ones (x ∷ xs) = omega (arith, ones xs)
+
+      range_ones : (n a : ℕ) → total (λ q. 1) (range_with_len a n) ≡ n
+      range_ones zero a = refl
+      range_ones (suc n) a = omega (arith, range_ones n (a + 1))
 
   pub part_le : (f : ℕ → ℕ) (test : ℕ → Bool) (xs : List ℕ) → total f (filter test xs) ≤ total f xs
   part_le f test [] = omega arith

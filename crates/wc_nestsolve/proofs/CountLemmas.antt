@@ -26,12 +26,15 @@ use Rattle.wc_nestsolve.specs.Inner.Passes.{bounds_of, factor, numbers, rounds_i
 use Rattle.wc_nestsolve.specs.Inner.Tables.{IsDownward}
 use Rattle.wc_nestsolve.specs.Inner.Trails.{IsTrail, tally}
 use Rattle.wc_nestsolve.specs.Inner.Weights.{surcharge, weight}
-use Rattle.wc_nestsolve.proofs.FlowLemmas.{flow_after, flow_skip}
+use Rattle.wc_nestsolve.proofs.FlowLemmas.{entered_same, flow_after, flow_skip}
 use Rattle.wc_nestsolve.proofs.ListedSums.{chosen_linear, chosen_more}
 use Rattle.wc_nestsolve.proofs.RoomLemmas.{sum_total}
 use Rattle.wc_nestsolve.proofs.SeenLemmas.{entered_is, leaves_inside, leaves_once, rounds_more, trail_once}
 use Rattle.wc_nestsolve.proofs.TrailLemmas.{round_of, trail_linear}
 use Rattle.wc_nestsolve.proofs.WeightLemmas.{same_by, test_apart, test_same}
+
+same_some : {X : Type 0} (x y : X) → Some x ≡ Some y → x ≡ y
+same_some x y is = cc
 
 -- equal counts are the same flow
 pub flow_same : (s : System) (nest : Nest) (v : ℕ → ℤ) (count : ℕ) (value : ℤ) (x y : ℕ → ℤ) → ((i : ℕ) → x i ≡ y i) → IsFlow s nest v count value x → IsFlow s nest v count value y
@@ -106,7 +109,7 @@ rounds_mono nest bounds h p (suc n) k implied = mul-le-mul (by (lies nest k h) r
     by false at_h false at_p = omega (arith, ap (λ b. if b then slice_index bounds k + 1 else 1) at_h, ap (λ b. if b then slice_index bounds k + 1 else 1) at_p)
 
 module _ (s : System) (nest : Nest) (is : IsNested s nest) (sound : IsSystem s) (v : List ℕ) (value : ℤ) (k : ℕ) (l : SystemLoop) (here : IsLoop s nest k l) (loops : (m : ℕ) → m < k → (o : SystemLoop) × IsLoop s nest m o)
-    (bound : slice_index (bounds_of s) k ≡ l.bound) (x : List ℕ) (old : AreCounts s nest v value k x) where
+    (bound : slice_index (bounds_of s) k ≡ l.bound) (head_known : l.head < s.nodes) (x : List ℕ) (old : AreCounts s nest v value k x) where
   abbrev seen_to : ℕ → ℕ → ℕ
   seen_to count p = rounds_in nest (bounds_of s) 0 count p
 
@@ -125,22 +128,34 @@ module _ (s : System) (nest : Nest) (is : IsNested s nest) (sound : IsSystem s) 
           spread n b = grind arith
       by false n = omega arith
 
+  -- a loop is entered as often as its head is left
+  come_own : entered s.start (pos 1) (numbers x) l ≤ℤ pos (seen_to k l.head)
+  come_own = omega (arith, ints, entered_is s nest is sound (numbers v) value k l here (numbers x) old.flow, old.seen l.head head_known)
+
+  come_to : (m : ℕ) (o : SystemLoop) → IsLoop s nest m o → (m < k) ⊎ (k ≤ m) → m ≤ k → entered s.start (pos 1) (numbers x) o ≤ℤ pos (seen_to m o.head)
+  come_to m o there (inl less) low = old.come m o there less
+  come_to m o there (inr more) low =
+      let same : k ≡ m = omega arith in
+      let one : l ≡ o = same_some l o (sym here ∙ ap (slice_get s.loops) same ∙ there) in
+      subst (λ j. entered s.start (pos 1) (numbers x) o ≤ℤ pos (seen_to j o.head)) same (subst (λ a. entered s.start (pos 1) (numbers x) a ≤ℤ pos (seen_to k a.head)) one come_own)
+
   -- a loop that isn't gone round
   pub counts_skip : slice_index v k ≡ 0 → AreCounts s nest v value (k + 1) x
   counts_skip none = record {
     counted = old.counted;
     flow = flow_skip s nest (numbers v) value k (numbers x) old.flow (ap pos none);
+    come = λ m o there less. come_to m o there (cases_lt m k) (omega arith);
     seen = λ p known. omega (arith, ints, old.seen p known, seen_grows p);
   }
 
   -- a loop is entered as often as the loops before it allow
-  pub entered_low : l.head < s.nodes → entered_times l s.start x ≤ seen_to k l.head
-  entered_low known = omega (arith, ints, entered_int l s.start x, entered_is s nest is sound (numbers v) value k l here (numbers x) old.flow, old.seen l.head known)
+  pub entered_low : entered_times l s.start x ≤ seen_to k l.head
+  entered_low = omega (arith, ints, entered_int l s.start x, come_own)
 
-  pub rounds_fit : l.head < s.nodes → l.bound * entered_times l s.start x ≤ seen_to (k + 1) l.head
-  rounds_fit known = omega (
+  pub rounds_fit : l.bound * entered_times l s.start x ≤ seen_to (k + 1) l.head
+  rounds_fit = omega (
     arith,
-    mul-le-mul_left {m = entered_times l s.start x} {n = seen_to k l.head} l.bound (entered_low known),
+    mul-le-mul_left {m = entered_times l s.start x} {n = seen_to k l.head} l.bound entered_low,
     seen_next l.head,
     ap (λ b. seen_to k l.head * (if b then l.bound + 1 else 1)) (is.inside k l here),
     spread (seen_to k l.head) l.bound,
@@ -151,7 +166,7 @@ module _ (s : System) (nest : Nest) (is : IsNested s nest) (sound : IsSystem s) 
 
   -- the rounds
   module _ (extra nodes : List ℕ) (down : IsDownward s nest nodes) (stands : (p : ℕ) → (lies nest k p ≡ true) × (p < s.nodes) → (j : ℕ) × (slice_get nodes j ≡ Some p))
-      (charged : (q : ℕ) → pos (slice_index extra q) ≡ surcharge s (numbers v) q) (head_known : l.head < s.nodes) (z : ℕ) (walk : List ℕ) (worth : z ≡ slice_index v k)
+      (charged : (q : ℕ) → pos (slice_index extra q) ≡ surcharge s (numbers v) q) (z : ℕ) (walk : List ℕ) (worth : z ≡ slice_index v k)
       (trail : IsTrail s nest (Some l.head) (λ p. (lies nest k p ≡ true) × (p < s.nodes)) extra l.head walk z) (new : List ℕ) (added : IsAdded walk (l.bound * entered_times l s.start x) x new) where
     abbrev times : ℕ
     times = l.bound * entered_times l s.start x
@@ -178,12 +193,23 @@ module _ (s : System) (nest : Nest) (is : IsNested s nest) (sound : IsSystem s) 
     counts_after = record {
       counted = added.counted ∙ old.counted;
       flow = flow_same s nest (numbers v) (k + 1) value (λ i. numbers x i +ℤ pos times *ℤ visits walk i) (numbers new) new_is
-          (flow_after s nest (numbers v) value k l here (numbers x) (visits walk) (pos times) old.flow
-          (round_of s nest is sound (numbers v) k l here (λ p. (lies nest k p ≡ true) × (p < s.nodes)) extra (λ q inside. charged q) (λ q inside. inside.0) z walk (ap pos worth) trail)
-          (sym (pos-*ℤ-pos l.bound (entered_times l s.start x)) ∙ ap (λ n. pos l.bound *ℤ n) (entered_int l s.start x)));
+          (flow_after s nest (numbers v) value k l here (numbers x) (visits walk) (pos times) old.flow round times_are);
+      come = λ m o there less. omega (arith, ints, come_new m o there (omega arith), come_to m o there (cases_lt m k) (omega arith));
       seen = λ p known. seen_at p known (lies nest k p) refl;
     }
       where
+        round : IsRoundOf s nest (numbers v) k (visits walk)
+        round = round_of s nest is sound (numbers v) k l here (λ p. (lies nest k p ≡ true) × (p < s.nodes)) extra (λ q inside. charged q) (λ q inside. inside.0) z walk (ap pos worth) trail
+
+        times_are : pos times ≡ pos l.bound *ℤ entered s.start (pos 1) (numbers x) l
+        times_are = sym (pos-*ℤ-pos l.bound (entered_times l s.start x)) ∙ ap (λ n. pos l.bound *ℤ n) (entered_int l s.start x)
+
+        -- the rounds don't enter the loops before
+        come_new : (m : ℕ) (o : SystemLoop) → IsLoop s nest m o → m ≤ k → entered s.start (pos 1) (numbers new) o ≡ entered s.start (pos 1) (numbers x) o
+        come_new m o there low =
+            sym (ap (λ n. n +ℤ chosen (o.head == s.start) (pos 1)) (sum_same (λ _ i. numbers x i +ℤ pos times *ℤ visits walk i) (λ _ i. numbers new i) o.entry (λ j i at. new_is i)))
+            ∙ entered_same s nest (numbers v) value k l here (numbers x) (visits walk) (pos times) old.flow round times_are m o there low
+
         tally_is : (p : ℕ) → out_of s.steps (visits walk) p ≡ tally (λ i t. chosen (t.source == p) (pos 1)) s.steps walk
         tally_is p = out_walk p ∙ trail_linear s nest (Some l.head) (λ p. (lies nest k p ≡ true) × (p < s.nodes)) extra (λ i t. chosen (t.source == p) (pos 1)) l.head z walk trail
 
@@ -193,7 +219,7 @@ module _ (s : System) (nest : Nest) (is : IsNested s nest) (sound : IsSystem s) 
             let most = monotone (pos times) (out_of s.steps (visits walk) p) (pos 1) (omega (arith, ints)) (omega (arith, ints, low, tally_is p)) in
             let rounds = mul-le-mul_left {m = entered_times l s.start x} {n = seen_to k p} l.bound (omega (
               arith,
-              entered_low head_known,
+              entered_low,
               rounds_mono nest (bounds_of s) l.head p k 0 (λ j less in_h. let o = loops j (omega arith) in is.larger j k p o.0 l o.1 here in_h inside),
             )) in
             omega (

@@ -28,35 +28,8 @@ use Rattle.wc_nestsolve.proofs.CountLemmas.{flow_same}
 use Rattle.wc_nestsolve.proofs.EndLemmas.{solution_holds}
 use Rattle.wc_nestsolve.proofs.ListedSums.{get_all}
 use Rattle.wc_nestsolve.proofs.PassLemmas.{whole_room}
+use Rattle.wc_nestsolve.proofs.SmallLemmas.{count_small, part_of}
 use Rattle.wc_nestsolve.proofs.WeightLemmas.{same_by, test_apart, test_same}
-
--- a term of a sum of terms that aren't negative
-term_low : {X : Type 0} (f : ℕ → X → ℤ) (xs : List X) → ((i : ℕ) (x : X) → pos 0 ≤ℤ f i x) → (i : ℕ) (x : X) → slice_get xs i ≡ Some x → (pos 0 ≤ℤ sum_placed f xs) × (f i x ≤ℤ sum_placed f xs)
-term_low f [] some i x at = cc
-term_low f (y ∷ ys) some zero x at =
-    let same : y ≡ x = cc in
-    let rest = rest_low (λ i. f (suc i)) ys (λ i. some (suc i)) in
-    (omega (arith, ints, some zero y, rest), omega (arith, ints, ap (f zero) same, rest))
-  where
-    rest_low : {X : Type 0} (f : ℕ → X → ℤ) (xs : List X) → ((i : ℕ) (x : X) → pos 0 ≤ℤ f i x) → pos 0 ≤ℤ sum_placed f xs
-    rest_low f [] some' = omega (arith, ints)
-    rest_low f (z ∷ zs) some' = omega (arith, ints, some' zero z, rest_low (λ i. f (suc i)) zs (λ i. some' (suc i)))
-term_low f (y ∷ ys) some (suc i) x at =
-    let rest = term_low (λ n. f (suc n)) ys (λ n. some (suc n)) i x at in
-    (omega (arith, ints, some zero y, rest.0), omega (arith, ints, some zero y, rest.1))
-
-part_of : (f : ℕ → ℕ) (xs : List ℕ) (i p : ℕ) → slice_get xs i ≡ Some p → f p ≤ total f xs
-part_of f [] i p at = cc
-part_of f (x ∷ xs) zero p at = let same : x ≡ p = cc in omega (arith, ap f same)
-part_of f (x ∷ xs) (suc i) p at = omega (arith, part_of f xs i p at)
-
-dearest_some : (steps : List SystemStep) (p : ℕ) → 1 ≤ dearest steps p
-dearest_some [] p = omega arith
-dearest_some (t ∷ steps) p = by (t.source == p) (dearest_some steps p)
-  where
-    by : (b : Bool) → 1 ≤ dearest steps p → 1 ≤ (if b then max t.cost (dearest steps p) else dearest steps p)
-    by true rest = omega arith
-    by false rest = rest
 
 mapped_at : (xs : List ℕ) (i : ℕ) → number_at (map pos xs) i ≡ numbers xs i
 mapped_at [] i = refl
@@ -77,33 +50,10 @@ module _ (nest : Nest) (s : System) (w : Ways) (ways : AreWays s nest w) (extra 
   big : 2 ^ 100 < 2 ^ 127
   big = lit< tt
 
-  seen_small : (p : ℕ) → p < s.nodes → rounds_in nest (bounds_of s) 0 (length s.loops) p < 2 ^ 100
-  seen_small p known =
-      let place = ways.order.all p known in
-      let worth = part_of (worth_in s nest 0) w.order.items place.0 p place.1 in
-      let whole = room_below nest s ways.solvable w.order.items ways.order 0 (omega arith) in
-      let all : length s.loops - 0 ≡ length s.loops = omega arith in
-      let same : worth_in s nest 0 p ≡ dearest s.steps p * rounds_in nest (bounds_of s) 0 (length s.loops) p = ap (λ n. dearest s.steps p * rounds_in nest (bounds_of s) 0 n p) all in
-      let grown = mul-le-mul_right {m = 1} {n = dearest s.steps p} (rounds_in nest (bounds_of s) 0 (length s.loops) p) (dearest_some s.steps p) in
-      omega (arith, worth, whole, same, grown)
-
   pub counts_small : All (λ n. n < 2 ^ 127) x
   counts_small i d within =
-      let step = there s.steps i (omega (arith, within, turned.counts.counted)) in
-      let known = get_all (λ t. t.source < s.nodes) s.steps i step.0 step.1 ways.solvable.sound.sources in
-      let term = term_low (λ j t. chosen (t.source == step.0.source) (numbers x j)) s.steps (λ j t. some (t.source == step.0.source) j) i step.0 step.1 in
-      let mine : chosen (step.0.source == step.0.source) (numbers x i) ≡ numbers x i = ap (λ b. chosen b (numbers x i)) (test_same step.0.source step.0.source refl) in
       let value_is : get_or x i d ≡ get_or x i 0 = get_or_from_slice_get x i (get_or x i 0) d (slice_get-get_or x i 0 within) in
-      omega (arith, ints, term.1, mine, turned.counts.seen step.0.source known, seen_small step.0.source known, big, value_is)
-    where
-      some : (b : Bool) (j : ℕ) → pos 0 ≤ℤ chosen b (numbers x j)
-      some true j = omega (arith, ints)
-      some false j = omega (arith, ints)
-
-      there : (xs : List SystemStep) (i : ℕ) → i < length xs → (t : SystemStep) × (slice_get xs i ≡ Some t)
-      there [] i less = absurd (omega arith)
-      there (y ∷ ys) zero less = (y, refl)
-      there (y ∷ ys) (suc i) less = there ys i (omega arith)
+      omega (arith, count_small nest s ways.solvable w.order.items ways.order v value (length s.loops) x turned.counts (omega arith) i within, big, value_is)
 
   pub rounds_small : length v ≡ length s.loops → All (λ n. n < 2 ^ 127) v
   rounds_small counted i d within =

@@ -1,8 +1,8 @@
 -- The last pass begins with the ways to the exit.
-use Rattle.std.proofs.Common.{◌≡◌, ℕ, zero, suc, ◌==◌, ◌+◌, ◌*◌, ◌<◌, ◌≤◌, ◌^◌, ℤ, pos, neg_ℤ, ◌+ℤ◌, ◌*ℤ◌, ◌≤ℤ◌, List, [], ◌∷◌, map, take, length, slice_index, slice_get, get_or, Option, Some, None, Bool, true, false, refl, sym, ap, subst, ◌∙◌, arith}
+use Rattle.std.proofs.Common.{◌≡◌, ℕ, zero, suc, ◌==◌, ◌+◌, ◌*◌, ◌<◌, ◌≤◌, ◌^◌, ℤ, pos, neg_ℤ, ◌+ℤ◌, ◌*ℤ◌, ◌≤ℤ◌, List, [], ◌∷◌, map, take, length, slice_index, slice_get, get_or, Option, Some, None, Bool, true, false, refl, sym, ap, subst, ◌∙◌, arith, lit<}
 use Rattle.std.proofs.Math.IntN.{*ℤ-zero}
 use Rattle.std.proofs.lemmas.Int.{ints}
-use Rattle.std.proofs.lemmas.List.{take-length}
+use Rattle.std.proofs.lemmas.List.{take_all}
 use Rattle.std.proofs.lemmas.Option.{slice_get_within}
 use Rattle.std.specs.List.{sum_by}
 use Rattle.wc_base.specs.Sums.{chosen}
@@ -14,15 +14,17 @@ use Rattle.wc_model.specs.Flow.Counts.{out_of}
 use Rattle.wc_model.specs.Flow.SystemWalks.{visits}
 use Rattle.wc_nestsolve.specs.declared.found.Found.{Found}
 use Rattle.wc_nestsolve.specs.declared.ways.Ways.{Ways}
-use Rattle.wc_nestsolve.specs.Inner.Adding.{IsAdded}
+use Rattle.wc_nestsolve.specs.Inner.Adding.{AreWalkable, IsAdded}
 use Rattle.wc_nestsolve.specs.Inner.LastPass.{AreCounts, ArePotentials}
 use Rattle.wc_nestsolve.specs.Inner.Nested.{IsStep}
 use Rattle.wc_nestsolve.specs.Inner.Passes.{AreRounds, bounds_of, numbers, rounds_in}
 use Rattle.wc_nestsolve.specs.Inner.Potentials.{potential_of}
-use Rattle.wc_nestsolve.specs.Inner.Raising.{potential_at}
+use Rattle.wc_nestsolve.specs.Inner.Raising.{AreBelow, potential_at}
 use Rattle.wc_nestsolve.specs.Inner.Tables.{IsAmong, IsFilled, IsTable, charge, found_at}
 use Rattle.wc_nestsolve.specs.Inner.Trails.{IsTrail, tally, walk_from}
 use Rattle.wc_nestsolve.specs.Inner.Ways.{AreWays}
+use Rattle.wc_nestsolve.proofs.AddingLemmas.{trail_places}
+use Rattle.wc_nestsolve.proofs.CeilingLemmas.{order_few}
 use Rattle.wc_nestsolve.proofs.CountLemmas.{flow_same, visits_listed}
 use Rattle.wc_nestsolve.proofs.EndLemmas.{first_potential}
 use Rattle.wc_nestsolve.proofs.LastLemmas.{potential_same, start_found}
@@ -33,7 +35,7 @@ use Rattle.wc_nestsolve.proofs.SeenLemmas.{leaves_once, trail_once}
 use Rattle.wc_nestsolve.proofs.TrailLemmas.{trail_linear, walk_trail, way_flow}
 use Rattle.wc_base.proofs.Products.{one_times}
 use Rattle.wc_base.proofs.SumLemmas.{sum_same}
-use Rattle.std.specs.Prelude.{if◌then◌else◌}
+use Rattle.std.specs.Prelude.{All, if◌then◌else◌}
 use Rattle.wc_model.specs.Flow.Places.{IsOnce, is_listed}
 
 module _ (nest : Nest) (s : System) (w : Ways) (ways : AreWays s nest w) (extra v : List ℕ) (rounds : AreRounds s nest w.order.items w.classes.items 0 extra v) (best : List (Option Found))
@@ -53,10 +55,35 @@ module _ (nest : Nest) (s : System) (w : Ways) (ways : AreWays s nest w) (extra 
   first_small p f at = omega (
     arith,
     filled.low p f at,
-    ap (sum_by (charge s nest extra)) (take-length w.order.items),
+    ap (sum_by (charge s nest extra)) (take_all (length w.order.items) w.order.items (omega arith)),
     sum_total (charge s nest extra) w.order.items,
     whole_room nest s w ways extra v rounds,
   )
+
+  pub first_below : AreBelow best
+  first_below p f at = let big : 2 ^ 100 < 2 ^ 101 = lit< tt in omega (arith, first_small p f at, big)
+
+  pub first_walkable : AreWalkable s nest best
+  first_walkable = record {
+    sound = ways.solvable.sound;
+    marks = ways.solvable.marks;
+    counted = filled.counted;
+    placed = λ p g at. let step = filled.table.attained p g at in slice_get_within s.steps g.place step.step step.at;
+  }
+
+  -- the walk of the start
+  pub first_trail : (f : Found) → found_at best s.start ≡ Some f → (walk : List ℕ) → walk ≡ walk_from s nest best s.nodes (Some s.start) → IsTrail s nest None Inside extra s.start walk f.value
+  first_trail f at walk is =
+      let place = ways.order.all s.start ways.solvable.sound.start in
+      subst (λ y. IsTrail s nest None Inside extra s.start y f.value) (sym is)
+      (walk_trail s nest None Inside extra w.order.items best ways.order.down (λ p among. (among.0, among.2)) filled.table s.nodes place.0 s.start f
+      (omega (arith, slice_get_within w.order.items place.0 s.start place.1, order_few nest s ways.solvable w.order.items ways.order)) place.1 at)
+
+  pub first_places : (walk : List ℕ) → walk ≡ walk_from s nest best s.nodes (Some s.start) → All (λ i. i < length s.steps) walk
+  first_places walk is = trail_places s nest None Inside extra s.start way.0.value walk (first_trail way.0 way.1 walk is)
+
+  pub first_once : (walk : List ℕ) → walk ≡ walk_from s nest best s.nodes (Some s.start) → IsOnce walk
+  first_once walk is = trail_once s nest None Inside extra w.order.items ways.order.down (λ q among. (among.0, among.2)) s.start way.0.value walk (first_trail way.0 way.1 walk is)
 
   mapped : (xs : List (Option Found)) (p : ℕ) → potential_at (map potential_of xs) p ≡ potential_of (found_at xs p)
   mapped [] p = refl
@@ -89,18 +116,14 @@ module _ (nest : Nest) (s : System) (w : Ways) (ways : AreWays s nest w) (extra 
 
   -- the way of the start
   pub first_counts : (f : Found) → found_at best s.start ≡ Some f → (walk x new : List ℕ) → walk ≡ walk_from s nest best s.nodes (Some s.start) → length x ≡ length s.steps → ((i : ℕ) → slice_index x i ≡ 0)
-      → length w.order.items ≤ s.nodes → IsAdded walk 1 x new → AreCounts s nest v (pos f.value) 0 new
-  first_counts f at walk x new is counted zeros few added =
-      let place = ways.order.all s.start ways.solvable.sound.start in
-      let trail : IsTrail s nest None Inside extra s.start walk f.value = subst (λ y. IsTrail s nest None Inside extra s.start y f.value) (sym is)
-      (walk_trail s nest None Inside extra w.order.items best ways.order.down (λ p among. (among.0, among.2)) filled.table s.nodes place.0 s.start f
-      (omega (arith, slice_get_within w.order.items place.0 s.start place.1, few)) place.1 at) in
-      made trail
+      → IsAdded walk 1 x new → AreCounts s nest v (pos f.value) 0 new
+  first_counts f at walk x new is counted zeros added = made (first_trail f at walk is)
     where
       made : IsTrail s nest None Inside extra s.start walk f.value → AreCounts s nest v (pos f.value) 0 new
       made trail = record {
         counted = added.counted ∙ counted;
         flow = flow_same s nest (numbers v) 0 (pos f.value) (visits walk) (numbers new) same (way_flow s nest ways.solvable.nested ways.solvable.sound (numbers v) Inside extra (λ q inside. rounds.charged q) f.value walk trail);
+        come = λ k l there less. absurd (omega arith);
         seen = λ p known. omega (
           arith,
           ints,
@@ -112,7 +135,7 @@ module _ (nest : Nest) (s : System) (w : Ways) (ways : AreWays s nest w) (extra 
       }
         where
           once : IsOnce walk
-          once = trail_once s nest None Inside extra w.order.items ways.order.down (λ q among. (among.0, among.2)) s.start f.value walk trail
+          once = first_once walk is
 
           same : (i : ℕ) → visits walk i ≡ numbers new i
           same i = omega (arith, ints, visits_listed walk i once, added.each i, zeros i, by (is_listed i walk))

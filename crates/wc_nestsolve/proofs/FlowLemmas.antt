@@ -48,7 +48,7 @@ module _ (s : System) (nest : Nest) (v : ℕ → ℤ) (value : ℤ) (k : ℕ) (l
   entered_more : (m : ℕ) (o : SystemLoop) → entered s.start (pos 1) z o ≡ entered s.start (pos 1) x o +ℤ r *ℤ sum_in y o.entry
   entered_more m o = omega (arith, ints, places_more o.entry x y r)
 
-  entered_same : (m : ℕ) (o : SystemLoop) → IsLoop s nest m o → m ≤ k → entered s.start (pos 1) z o ≡ entered s.start (pos 1) x o
+  pub entered_same : (m : ℕ) (o : SystemLoop) → IsLoop s nest m o → m ≤ k → entered s.start (pos 1) z o ≡ entered s.start (pos 1) x o
   entered_same m o there low = omega (arith, ints, entered_more m o, ap (λ a. r *ℤ a) (round.entries m o there low), *ℤ-zero r)
 
   back_same : (m : ℕ) (o : SystemLoop) → IsLoop s nest m o → (m ≡ k → ⊥) → sum_in z o.back ≡ sum_in x o.back

@@ -1,5 +1,6 @@
 pub mod AddLemmas
 pub mod AddingLemmas
+pub mod BeginLemmas
 pub mod BestLemmas
 pub mod CeilingLemmas
 pub mod ClassLemmas
@@ -12,6 +13,7 @@ pub mod FlowLemmas
 pub mod LastLemmas
 pub mod ListedSums
 pub mod LoopLemmas
+pub mod NestedLemmas
 pub mod OrderLemmas
 pub mod PassLemmas
 pub mod PotentialLemmas
@@ -19,6 +21,9 @@ pub mod RaiseLemmas
 pub mod RoomLemmas
 pub mod RoundsLemmas
 pub mod SeenLemmas
+pub mod ShapeLemmas
+pub mod SmallLemmas
+pub mod SolvableLemmas
 pub mod TableLemmas
 pub mod TrailLemmas
 pub mod WeightLemmas

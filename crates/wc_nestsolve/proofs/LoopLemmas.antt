@@ -3,7 +3,8 @@ use Rattle.std.proofs.Common.{◌≡◌, ℕ, zero, suc, ◌==◌, ◌+◌, ◌*
 use Rattle.std.proofs.Math.ListN.{get_or-eq_default}
 use Rattle.std.proofs.lemmas.Bool.{cases_lt}
 use Rattle.std.proofs.lemmas.Int.{ints}
-use Rattle.std.proofs.lemmas.Option.{slice_get-get_or, slice_get_within}
+use Rattle.std.proofs.lemmas.List.{get_or_read}
+use Rattle.std.proofs.lemmas.Option.{same_Some, slice_get_within}
 use Rattle.wc_model.specs.declared.flow_system.System.{System}
 use Rattle.wc_model.specs.declared.flow_system.SystemLoop.{SystemLoop}
 use Rattle.wc_model.specs.declared.graphs.Nest.{Nest}
@@ -14,7 +15,7 @@ use Rattle.wc_nestsolve.specs.Inner.Nested.{IsLoop, lies}
 use Rattle.wc_nestsolve.specs.Inner.Passes.{class_of, numbers}
 use Rattle.wc_nestsolve.specs.Inner.Potentials.{after_loop, raised_by}
 use Rattle.wc_nestsolve.specs.Inner.Raising.{AreBelow, AreRaisable, IsRaised, potential_at}
-use Rattle.wc_nestsolve.specs.Inner.Tables.{IsAmong, found_at}
+use Rattle.wc_nestsolve.specs.Inner.Tables.{IsAmong, found_at, value_of_found}
 use Rattle.wc_nestsolve.specs.Inner.Ways.{AreWays}
 use Rattle.wc_nestsolve.proofs.LastLemmas.{potentials_after}
 use Rattle.wc_nestsolve.proofs.RoundsLemmas.{class_from, class_into, class_is, head_known, loop_within}
@@ -29,6 +30,14 @@ module _ (nest : Nest) (s : System) (w : Ways) (ways : AreWays s nest w) (place 
 
   inside : (count p : ℕ) → IsAmong s nest class count p → (lies nest place p ≡ true) × (p < s.nodes)
   inside count p is = class_from nest s ways.solvable w.order.items ways.order w.classes.items ways.classes place f.own f.here count p is
+
+  -- the round fits
+  pub worth_small : slice_index v place < 2 ^ 100
+  worth_small = by (found_at best f.own.head) refl
+    where
+      by : (o : Option Found) → found_at best f.own.head ≡ o → slice_index v place < 2 ^ 100
+      by None at = omega (arith, f.value, ap value_of_found at)
+      by (Some g) at = omega (arith, f.value, ap value_of_found at, f.small f.own.head g at)
 
   pub below : AreBelow best
   below p g at = let big : 2 ^ 100 < 2 ^ 101 = lit< tt in omega (arith, f.small p g at, big)
@@ -63,6 +72,18 @@ module _ (nest : Nest) (s : System) (w : Ways) (ways : AreWays s nest w) (place 
             never : lies nest place p ≡ true → ⊥
             never yes' = cc
 
+    pub raise_done : (a : ℤ) → potential_at u f.own.head ≡ Some a → (new : List (Option ℤ)) (xs : List ℕ) (from : ℤ) → xs ≡ class → from ≡ a -ℤ pos (slice_index v place) → IsRaised xs (length xs) best from u new
+        → ArePotentials s nest v value (place + 1) new
+    raise_done a head new xs from same is raised =
+        raise_some a head new (subst (λ z. IsRaised class (length class) best z u new) is (subst (λ ys. IsRaised ys (length ys) best from u new) same raised))
+
+    -- the head as the code reads it
+    pub head_at : (l : SystemLoop) → slice_get s.loops place ≡ Some l → (o : Option ℤ) → o ≡ get_or u l.head o → potential_at u f.own.head ≡ o
+    head_at l at o read =
+        let own : f.own ≡ l = same_Some f.own l (sym f.here ∙ at) in
+        let known : l.head < s.nodes = subst (λ x. x.head < s.nodes) own (head_known nest s ways.solvable w.order.items ways.order w.classes.items ways.classes place f.own f.here) in
+        ap (λ x. potential_at u x.head) own ∙ sym (get_or_read u l.head o (omega (arith, old.counted, known)) read None)
+
     few : place < 100000
     few = omega (arith, loop_within nest s ways.solvable w.order.items ways.order w.classes.items ways.classes place f.own f.here, ways.solvable.few, ways.solvable.loops_few)
 
@@ -71,3 +92,9 @@ module _ (nest : Nest) (s : System) (w : Ways) (ways : AreWays s nest w) (place 
 
     pub raise_high : (a : ℤ) → potential_at u f.own.head ≡ Some a → (a -ℤ pos (slice_index v place)) ≤ℤ pos (2 ^ 120)
     raise_high a head = let fits : (place + 1) * 2 ^ 100 ≤ 2 ^ 120 = omega (arith, few) in omega (arith, ints, old.high f.own.head a head, fits)
+
+    pub head_low : (a : ℤ) → potential_at u f.own.head ≡ Some a → neg_ℤ (pos (2 ^ 125)) ≤ℤ a
+    head_low a head = let fits : (place + 1) * 2 ^ 100 ≤ 2 ^ 125 = omega (arith, few) in omega (arith, ints, old.low f.own.head a head, fits)
+
+    pub head_high : (a : ℤ) → potential_at u f.own.head ≡ Some a → a ≤ℤ pos (2 ^ 125)
+    head_high a head = let fits : (place + 1) * 2 ^ 100 ≤ 2 ^ 125 = omega (arith, few) in omega (arith, ints, old.high f.own.head a head, fits)

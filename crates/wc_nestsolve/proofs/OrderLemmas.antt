@@ -16,7 +16,7 @@ use Rattle.wc_model.proofs.Places.{contains_from_get, get_from_contains}
 use Rattle.wc_nestsolve.specs.Inner.Nested.{IsLoop, IsStep, lies}
 use Rattle.wc_nestsolve.specs.Inner.Orders.{IsDownOrder, loose, loosened}
 use Rattle.wc_nestsolve.specs.Inner.Tables.{IsDownward}
-use Rattle.wc_nestsolve.specs.Solvable.{IsSolvable, LeadsAhead}
+use Rattle.wc_nestsolve.specs.Inner.Solvable.{IsSolvable, LeadsAhead}
 use Rattle.wc_nestsolve.proofs.ListedSums.{get_all}
 
 same_some : {X : Type 0} (x y : X) → Some x ≡ Some y → x ≡ y

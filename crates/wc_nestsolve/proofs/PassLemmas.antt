@@ -1,6 +1,6 @@
 -- What the tables of the last pass are.
 use Rattle.std.proofs.Common.{◌≡◌, ℕ, ◌+◌, ◌<◌, ◌≤◌, ◌^◌, ◌⊎◌, inl, inr, ℤ, pos, List, take, length, slice_index, slice_get, Option, Some, None, Bool, true, false, refl, sym, ap, subst, ◌∙◌, arith, lit<}
-use Rattle.std.proofs.lemmas.List.{take-length}
+use Rattle.std.proofs.lemmas.List.{take_all}
 use Rattle.std.specs.List.{filter, sum_by}
 use Rattle.wc_model.specs.declared.flow_system.System.{System}
 use Rattle.wc_model.specs.declared.flow_system.SystemLoop.{SystemLoop}
@@ -14,7 +14,7 @@ use Rattle.wc_nestsolve.specs.Inner.Orders.{IsDownOrder}
 use Rattle.wc_nestsolve.specs.Inner.Passes.{AreClasses, AreRounds, IsRoundsPass, class_of, worth_in}
 use Rattle.wc_nestsolve.specs.Inner.Tables.{AreFillable, AreTables, IsAmong, IsFilled, charge, found_at, value_of_found}
 use Rattle.wc_nestsolve.specs.Inner.Ways.{AreWays}
-use Rattle.wc_nestsolve.specs.Solvable.{IsSolvable}
+use Rattle.wc_nestsolve.specs.Inner.Solvable.{IsSolvable}
 use Rattle.wc_nestsolve.proofs.CeilingLemmas.{part_le, room_below}
 use Rattle.wc_nestsolve.proofs.RoomLemmas.{sum_total}
 use Rattle.wc_nestsolve.proofs.RoundsLemmas.{class_fillable, class_from, class_into, class_is}
@@ -58,9 +58,19 @@ module _ (nest : Nest) (s : System) (w : Ways) (ways : AreWays s nest w) (extra 
       small = λ p f at. omega (
         arith,
         filled.low p f at,
-        ap (sum_by (charge s nest extra)) (take-length (class_of w.classes.items k)),
+        ap (sum_by (charge s nest extra)) (take_all (length (class_of w.classes.items k)) (class_of w.classes.items k) (omega arith)),
         sum_total (charge s nest extra) (class_of w.classes.items k),
         ap (total (charge s nest extra)) (class_is nest s ways.solvable w.order.items ways.order w.classes.items ways.classes k l here),
         part_room,
       );
     }
+
+    -- the table that a turn fills
+    pub turn_table : (old best : List (Option Found)) → AreTables s nest extra old → length v ≡ length s.loops → (class : List ℕ) → class ≡ class_of w.classes.items k
+        → IsFilled s nest (Some l.head) extra class (length class) best → IsFilledFor s nest w k v best
+    turn_table old best tables counted class same filled =
+        let is = subst (λ xs. IsFilled s nest (Some l.head) extra xs (length xs) best) same filled in
+        filled_for best (record { sound = tables.sound; few = tables.few; marks = tables.marks; extra_counted = tables.extra_counted; best_counted = is.counted }) counted is
+
+    pub turn_fillable : (class : List ℕ) → class ≡ class_of w.classes.items k → AreFillable s nest extra class
+    turn_fillable class same = subst (AreFillable s nest extra) (sym same) last_fillable

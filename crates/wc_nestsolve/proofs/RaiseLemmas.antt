@@ -10,6 +10,10 @@ use Rattle.wc_nestsolve.specs.Inner.Tables.{found_at}
 same_some : {X : Type 0} (x y : X) → Some x ≡ Some y → x ≡ y
 same_some x y is = cc
 
+pub none_from : {X : Type 0} (o : Option X) → ((x : X) → o ≡ Some x → ⊥) → o ≡ None
+none_from None none = refl
+none_from (Some x) none = absurd (none x refl)
+
 pub raise_begins : (class : List ℕ) (best : List (Option Found)) (from : ℤ) (u : List (Option ℤ)) → IsRaised class 0 best from u u
 raise_begins class best from u = record { counted = refl; inside = λ j p less at. absurd (omega arith); outside = λ p none. refl }
 

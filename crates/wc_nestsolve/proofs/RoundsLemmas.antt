@@ -1,9 +1,9 @@
 -- The round of one loop more, from the innermost outwards.
-use Rattle.std.proofs.Common.{◌≡◌, ℕ, zero, suc, ◌==◌, ◌+◌, ◌*◌, ◌-◌, ◌<◌, ◌≤◌, ◌^◌, ◌⊎◌, inl, inr, ℤ, pos, ◌+ℤ◌, ◌*ℤ◌, List, [], ◌∷◌, map, take, length, set, slice_index, slice_get, get_or, Option, Some, None, Bool, true, false, if◌then◌else◌, refl, sym, ap, ap₂, subst, ◌∙◌, arith}
+use Rattle.std.proofs.Common.{◌≡◌, ℕ, zero, suc, ◌==◌, ◌+◌, ◌*◌, ◌-◌, ◌<◌, ◌≤◌, ◌^◌, ◌⊎◌, inl, inr, ℤ, pos, ◌+ℤ◌, ◌*ℤ◌, List, [], ◌∷◌, map, take, length, set, slice_index, slice_get, get_or, Option, Some, None, Bool, true, false, if◌then◌else◌, refl, sym, ap, ap₂, subst, ◌∙◌, arith, lit<}
 use Rattle.std.proofs.Math.IntN.{*ℤ-zero, pos-*ℤ-pos}
 use Rattle.std.proofs.lemmas.Bool.{cases_eq, cases_lt}
 use Rattle.std.proofs.lemmas.Int.{ints}
-use Rattle.std.proofs.lemmas.List.{get_or-set_same, get_or-set_other, length-set, take-length}
+use Rattle.std.proofs.lemmas.List.{get_or-set_same, get_or-set_other, length-set, take_all}
 use Rattle.std.proofs.lemmas.Option.{get_or_from_slice_get, slice_get-get_or, slice_get-map, slice_get_within}
 use Rattle.std.specs.List.{filter, sum_by}
 use Rattle.wc_base.specs.Sums.{sum_placed, chosen}
@@ -20,7 +20,7 @@ use Rattle.wc_nestsolve.specs.Inner.Orders.{IsDownOrder}
 use Rattle.wc_nestsolve.specs.Inner.Passes.{AreClasses, AreRounds, HasRound, IsRoomy, IsRoundsPass, bounds_of, class_of, numbers, worth_in}
 use Rattle.wc_nestsolve.specs.Inner.Tables.{AreFillable, AreTables, IsAmong, IsClear, IsDownward, IsFilled, IsTable, charge, found_at, value_of_found}
 use Rattle.wc_nestsolve.specs.Inner.Weights.{surcharge}
-use Rattle.wc_nestsolve.specs.Solvable.{IsSolvable}
+use Rattle.wc_nestsolve.specs.Inner.Solvable.{IsSolvable}
 use Rattle.wc_nestsolve.proofs.CeilingLemmas.{part_le, part_once, room_below}
 use Rattle.wc_nestsolve.proofs.ClassLemmas.{down_filter, filter_from, filter_into}
 use Rattle.wc_nestsolve.proofs.ListedSums.{get_all}
@@ -70,6 +70,13 @@ module _ (nest : Nest) (s : System) (is : IsSolvable nest s) (order : List ℕ) 
       let whole = room_below nest s is order of count low in
       omega (arith, below, part, whole)
 
+  -- before the round is found
+  pub round_fillable : (extra v : List ℕ) (first : List (Option Found)) → IsRoundsPass s nest order classes (k + 1) extra v first → (class : List ℕ) → class ≡ class_of classes k → AreFillable s nest extra class
+  round_fillable extra v first old class same =
+      let big : 2 ^ 100 < 2 ^ 127 = lit< tt in
+      let room = class_room extra (k + 1) (omega (arith, loop_within)) (old.rounds.roomy.outer k (omega arith)) in
+      subst (AreFillable s nest extra) (sym same) (class_fillable extra (omega (arith, big, room)))
+
   -- the round is found
   module _ (extra v : List ℕ) (first : List (Option Found)) (old : IsRoundsPass s nest order classes (k + 1) extra v first) (best : List (Option Found))
       (filled : IsFilled s nest (Some l.head) extra (class_of classes k) (length (class_of classes k)) best) where
@@ -91,7 +98,7 @@ module _ (nest : Nest) (s : System) (is : IsSolvable nest s) (order : List ℕ) 
             omega (
               arith,
               low,
-              ap (sum_by (charge s nest extra)) (take-length (class_of classes k)),
+              ap (sum_by (charge s nest extra)) (take_all (length (class_of classes k)) (class_of classes k) (omega arith)),
               sum_total (charge s nest extra) (class_of classes k),
               ap (total (charge s nest extra)) class_is,
             )
@@ -252,3 +259,10 @@ module _ (nest : Nest) (s : System) (is : IsSolvable nest s) (order : List ℕ) 
           surcharge_next q,
           ap (λ b. chosen b (pos l.bound *ℤ pos (value_of_found (found_at best l.head)))) (test_apart q l.head apart),
         )
+
+    -- as the code has it
+    pub round_done : (round : ℕ) → round ≡ value_of_found (found_at best l.head) → (extra' v' : List ℕ) → v' ≡ set v k round → extra' ≡ set extra l.head (l.bound * round) → (last : List (Option Found)) → length last ≡ length best → IsClear last
+        → IsRoundsPass s nest order classes k extra' v' last
+    round_done round is extra' v' v_is extra_is last same clear =
+        subst (λ xs. IsRoundsPass s nest order classes k extra' xs last) (sym (v_is ∙ ap (set v k) is))
+        (subst (λ xs. IsRoundsPass s nest order classes k xs v_next last) (sym (extra_is ∙ ap (λ n. set extra l.head (l.bound * n)) is)) (round_next last same clear))

@@ -6,6 +6,7 @@ pub mod Orders
 pub mod Passes
 pub mod Potentials
 pub mod Raising
+pub mod Solvable
 pub mod Tables
 pub mod Trails
 pub mod Ways

@@ -1,7 +1,7 @@
 ghost use Rattle.std.specs.Prelude.{◌≡◌, ◌<◌, [], IfOk, length, replicate};
 ghost use Rattle.wc_nestsolve.specs.Inner.Orders.{IsDownOrder};
 ghost use Rattle.wc_nestsolve.specs.Inner.Passes.{AreClasses, JoinsLoops, with_node};
-ghost use Rattle.wc_nestsolve.specs.Solvable.{IsSolvable};
+ghost use Rattle.wc_nestsolve.specs.Inner.Solvable.{IsSolvable};
 
 use std::alloc::{AllocError, Global};
 use wc_model::{Nest, System, Table};

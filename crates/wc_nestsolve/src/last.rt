@@ -1,4 +1,4 @@
-ghost use Rattle.std.specs.Prelude.{◌+◌, ◌<◌, IfOk, length, slice_index};
+ghost use Rattle.std.specs.Prelude.{◌≡◌, ◌+◌, ◌<◌, ◌^◌, ◌-ℤ◌, ◌≤ℤ◌, neg_ℤ, pos, IfOk, length, slice_index};
 ghost use Rattle.wc_nestsolve.specs.Inner.LastPass.{AddRounds, HasCounts, HasPotentials, HasTurn, IsFilledFor, IsLastTable, RaisePotentials};
 ghost use Rattle.wc_nestsolve.specs.Inner.Ways.{AreWays, HasRounds};
 
@@ -6,9 +6,19 @@ use crate::counts::{add, entered, follow};
 use crate::found::Found;
 use crate::potentials::raise;
 use crate::tables::{clear, fill};
-use crate::ways::{Ways, bound_at, head_at};
+use crate::ways::{Ways, class_at, loop_at};
 use std::alloc::{AllocError, Global};
 use wc_model::{Nest, System};
+
+// The potential of a head, less one round.
+fn less_round(at_head: &i128, round: u128) -> i128
+    requires low { neg_ℤ (pos (2 ^ 125)) ≤ℤ at_head.now }
+    requires high { at_head.now ≤ℤ pos (2 ^ 125) }
+    requires small { round < 2 ^ 100 }
+    ensures { result ≡ at_head.now -ℤ pos round }
+{
+    *at_head - round as i128
+}
 
 // The potentials of a loop's nodes are raised by the ways round it.
 fn raise_loop(
@@ -25,10 +35,11 @@ fn raise_loop(
     requires some { HasPotentials system.now nest.now v.now place u.old.items }
     ensures { RaisePotentials system.now nest.now v.now place u.old.items u.new.items }
 {
-    let head = head_at(system, place);
-    if let Some(at_head) = u[head as usize] {
-        let round = v[place] as i128;
-        raise(ways.classes[place].items(), best, at_head - round, u);
+    let own = loop_at(system, place);
+    let class = class_at(ways, place);
+    if let Some(at_head) = u[own.head as usize] {
+        let from = less_round(&at_head, v[place]);
+        raise(class, best, from, u);
     }
 }
 
@@ -49,18 +60,11 @@ fn add_rounds(
     requires some { HasCounts system.now nest.now v.now place x.old.items }
     ensures { IfOk result (λ _. AddRounds system.now nest.now v.now place x.old.items x.new.items) }
 {
-    let head = head_at(system, place);
-    let bound = bound_at(system, place);
-    let entries = entered(&system.loops.items()[place], system.start, x.as_slice());
-    let walk = follow(
-        alloc,
-        system,
-        nest,
-        best,
-        head,
-        ways.classes[place].items().len(),
-    )?;
-    add(walk.as_slice(), bound as u128 * entries, x);
+    let own = loop_at(system, place);
+    let entries = entered(own, system.start, x.as_slice());
+    let class = class_at(ways, place);
+    let walk = follow(alloc, system, nest, best, own.head, class.len())?;
+    add(walk.as_slice(), own.bound as u128 * entries, x);
     Ok(())
 }
 
@@ -85,17 +89,10 @@ pub fn turn(
     ensures table { IfOk result (λ _. IsLastTable system.now nest.now extra.now v.now best.new.items) }
     ensures turn { IfOk result (λ _. HasTurn system.now nest.now v.now (place + 1) u.new.items x.new.items) }
 {
-    let class = ways.classes[place].items();
-    let head = head_at(system, place);
-    fill(
-        system,
-        nest,
-        ways.starts.as_slice(),
-        Some(head),
-        class,
-        extra,
-        best,
-    );
+    let class = class_at(ways, place);
+    let goal = Some(loop_at(system, place).head);
+    let starts = ways.starts.as_slice();
+    fill(system, nest, starts, goal, class, extra, best);
     raise_loop(system, nest, ways, place, v, best.as_slice(), u);
     if 0 < v[place] {
         add_rounds(alloc, system, nest, ways, place, v, best.as_slice(), x)?;

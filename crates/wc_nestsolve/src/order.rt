@@ -1,6 +1,6 @@
 ghost use Rattle.std.specs.Prelude.{◌≡◌, IfOk};
 ghost use Rattle.wc_nestsolve.specs.Inner.Orders.{IsDownOrder, loose, loosened};
-ghost use Rattle.wc_nestsolve.specs.Solvable.{IsSolvable};
+ghost use Rattle.wc_nestsolve.specs.Inner.Solvable.{IsSolvable};
 
 use std::alloc::{AllocError, Global};
 use wc_model::walks::{Order, order_nodes};

@@ -3,7 +3,7 @@ ghost use Rattle.wc_nestsolve.specs.Inner.Ways.{AreWays, FindsRounds};
 
 use crate::found::Found;
 use crate::tables::{clear, fill, value_at};
-use crate::ways::{Ways, bound_at, head_at};
+use crate::ways::{Ways, class_at, loop_at};
 use wc_model::{Nest, System};
 
 // The round of one loop, and the surcharge of its head.
@@ -21,21 +21,14 @@ fn round(
     requires pass { FindsRounds system.now nest.now ways.now (place + 1) extra.old.items v.old.items best.old.items }
     ensures { FindsRounds system.now nest.now ways.now place extra.new.items v.new.items best.new.items }
 {
-    let head = head_at(system, place);
-    let bound = bound_at(system, place);
-    let class = ways.classes[place].items();
-    fill(
-        system,
-        nest,
-        ways.starts.as_slice(),
-        Some(head),
-        class,
-        extra.as_slice(),
-        best,
-    );
-    let round = value_at(best.as_slice(), head);
+    let own = loop_at(system, place);
+    let class = class_at(ways, place);
+    let starts = ways.starts.as_slice();
+    let goal = Some(own.head);
+    fill(system, nest, starts, goal, class, extra.as_slice(), best);
+    let round = value_at(best.as_slice(), own.head);
     v[place] = round;
-    extra[head as usize] = bound as u128 * round;
+    extra[own.head as usize] = own.bound as u128 * round;
     clear(class, best);
 }
 

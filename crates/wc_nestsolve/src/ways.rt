@@ -1,12 +1,13 @@
-ghost use Rattle.std.specs.Prelude.{◌≡◌, ◌+◌, ◌<◌, IfOk, length};
-ghost use Rattle.wc_nestsolve.specs.Inner.Ways.{AreWays, BoundIs, HeadIs};
-ghost use Rattle.wc_nestsolve.specs.Solvable.{IsSolvable};
+ghost use Rattle.std.specs.Prelude.{◌≡◌, ◌<◌, IfOk, Some, length, slice_get};
+ghost use Rattle.wc_nestsolve.specs.Inner.Passes.{class_of};
+ghost use Rattle.wc_nestsolve.specs.Inner.Ways.{AreWays};
+ghost use Rattle.wc_nestsolve.specs.Inner.Solvable.{IsSolvable};
 
 use crate::classes::classes;
 use crate::order::order;
 use std::alloc::{AllocError, Global};
 use wc_model::walks::starts;
-use wc_model::{Nest, System, Table};
+use wc_model::{Nest, System, SystemLoop, Table};
 
 /// All nodes, each after those that its steps ahead lead to; per loop those of its class, in the same order; and per
 /// node the place of its first step.
@@ -31,16 +32,18 @@ pub fn find_ways(alloc: Global, system: &System, nest: &Nest) -> Result<Ways, Al
     })
 }
 
-pub fn head_at(system: &System, place: usize) -> u32
+/// The loop at a place.
+pub fn loop_at(system: &System, place: usize) -> &SystemLoop
     requires { place < length system.now.loops }
-    ensures { HeadIs system.now place result }
+    ensures { slice_get system.now.loops place ≡ Some result.now }
 {
-    system.loops.items()[place].head
+    &system.loops.items()[place]
 }
 
-pub fn bound_at(system: &System, place: usize) -> u32
-    requires { place < length system.now.loops }
-    ensures { BoundIs system.now place result }
+/// The nodes of the class of a loop.
+pub fn class_at(ways: &Ways, place: usize) -> &[u32]
+    requires { place < length ways.now.classes.items }
+    ensures { result.now ≡ class_of ways.now.classes.items place }
 {
-    system.loops.items()[place].bound
+    ways.classes[place].items()
 }

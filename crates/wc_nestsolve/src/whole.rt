@@ -1,10 +1,16 @@
 ghost use Rattle.std.specs.Prelude.{◌≡◌, ◌<◌, ◌^◌, [], All, IfOk, map, pos};
+ghost use Rattle.wc_dual.specs.Wide.{IsWideSolution};
+ghost use Rattle.wc_model.specs.Flow.Ceiling.{ceiling_of};
 ghost use Rattle.wc_model.specs.Flow.Certificates.{SolutionHolds};
+ghost use Rattle.wc_model.specs.Flow.Nest.{IsNest};
+ghost use Rattle.wc_model.specs.Flow.Systems.{IsSystem};
+ghost use Rattle.wc_model.specs.Program.Graphs.{IsGraph};
 ghost use Rattle.wc_model.specs.Workspace.Phases.{IsWhole};
+ghost use Rattle.wc_nestsolve.specs.Given.{IsSystemIn};
 ghost use Rattle.wc_nestsolve.specs.Inner.LastPass.{HasTurn, IsLastTable};
 ghost use Rattle.wc_nestsolve.specs.Inner.Raising.{settled};
 ghost use Rattle.wc_nestsolve.specs.Inner.Ways.{AreWays, HasRounds};
-ghost use Rattle.wc_nestsolve.specs.Solvable.{IsSolvable};
+ghost use Rattle.wc_nestsolve.specs.Inner.Solvable.{IsSolvable};
 
 use crate::counts::{add, follow};
 use crate::found::Found;
@@ -39,21 +45,15 @@ fn begin(
     ensures table { IfOk result (λ _. IsLastTable system.now nest.now extra.now v.now best.new.items) }
     ensures turn { IfOk result (λ t. HasTurn system.now nest.now v.now 0 t.u.items t.x.items) }
 {
-    fill(
-        system,
-        nest,
-        ways.starts.as_slice(),
-        None,
-        ways.order.as_slice(),
-        extra,
-        best,
-    );
+    let starts = ways.starts.as_slice();
+    let order = ways.order.as_slice();
+    fill(system, nest, starts, None, order, extra, best);
     let u = first_potentials(alloc, best.as_slice())?;
     let mut x = vec![in alloc; 0u128; system.steps.items().len()]?;
     let nodes = system.nodes as usize;
     let walk = follow(alloc, system, nest, best.as_slice(), system.start, nodes)?;
     add(walk.as_slice(), 1, &mut x);
-    clear(ways.order.as_slice(), best);
+    clear(order, best);
     Ok(Turned { u, x })
 }
 
@@ -79,17 +79,33 @@ fn signed(alloc: Global, numbers: &[u128]) -> Result<Vec<i128>, AllocError>
 }
 
 /// Counts and prices of the same value, over the denominator and the scale 1, for the system of a graph and its nest
-/// without stated limits: so the value is the optimum over fractions.
+/// without stated limits: so the value is the optimum over fractions. Implicit path enumeration after Li and Malik
+/// 1995; the prices are those of the dual linear program.
 pub fn solve(
     alloc: Global,
-    _graph: &Graph,
+    graph: &Graph,
     nest: &Nest,
     system: &System,
 ) -> Result<Solution, AllocError>
+    requires graph { IsGraph graph.now }
+    requires nest { IsNest graph.now nest.now }
+    requires system { IsSystemIn graph.now nest.now system.now }
+    requires sound { IsSystem system.now }
+    requires below { ceiling_of nest.now system.now < 2 ^ 100 }
+    requires unlimited { system.now.limits ≡ [] }
+    ensures holds { IfOk result (SolutionHolds system.now) }
+    ensures whole { IfOk result IsWhole }
+    ensures narrow { IfOk result (λ c. IsWideSolution system.now c → ⊥) }
+{
+    solve_nest(alloc, nest, system)
+}
+
+fn solve_nest(alloc: Global, nest: &Nest, system: &System) -> Result<Solution, AllocError>
     requires solvable { IsSolvable nest.now system.now }
     requires unlimited { system.now.limits ≡ [] }
     ensures holds { IfOk result (SolutionHolds system.now) }
     ensures whole { IfOk result IsWhole }
+    ensures narrow { IfOk result (λ c. IsWideSolution system.now c → ⊥) }
 {
     let ways = find_ways(alloc, system, nest)?;
     let nodes = system.nodes as usize;

@@ -3,7 +3,7 @@ use Rattle.std.specs.Prelude.{ℕ, ◌≡◌, ◌+◌, ◌*◌, ◌<◌, ◌^◌
 use Rattle.wc_model.specs.declared.flow_system.System.{System}
 use Rattle.wc_model.specs.declared.flow_system.SystemLoop.{SystemLoop}
 use Rattle.wc_model.specs.declared.graphs.Nest.{Nest}
-use Rattle.wc_model.specs.Flow.Counts.{out_of}
+use Rattle.wc_model.specs.Flow.Counts.{entered, out_of}
 use Rattle.wc_nestsolve.specs.declared.found.Found.{Found}
 use Rattle.wc_nestsolve.specs.declared.ways.Ways.{Ways}
 use Rattle.wc_nestsolve.specs.Inner.Flows.{IsFlow}
@@ -25,6 +25,7 @@ module _ (s : System) (nest : Nest) (v : List ℕ) (value : ℤ) where
   pub record AreCounts (count : ℕ) (x : List ℕ) : Type 0 where
     pub counted : length x ≡ length s.steps
     pub flow : IsFlow s nest (numbers v) count value (numbers x)
+    pub come : (k : ℕ) (l : SystemLoop) → IsLoop s nest k l → k < count → entered s.start (pos 1) (numbers x) l ≤ℤ pos (rounds_in nest (bounds_of s) 0 k l.head)
     pub seen : (p : ℕ) → p < s.nodes → out_of s.steps (numbers x) p ≤ℤ pos (rounds_in nest (bounds_of s) 0 count p)
 
 -- the table of the ways round a loop is filled once more, with the round's value

@@ -1,7 +1,6 @@
 -- The orders in which the passes go over the nodes.
-use Rattle.std.specs.Prelude.{ℕ, ◌≡◌, ◌+◌, List, Option, Some, slice_get}
+use Rattle.std.specs.Prelude.{ℕ, ◌+◌, List, Option}
 use Rattle.wc_model.specs.declared.flow_system.System.{System}
-use Rattle.wc_model.specs.declared.flow_system.SystemLoop.{SystemLoop}
 use Rattle.wc_model.specs.declared.graphs.Nest.{Nest}
 use Rattle.wc_model.specs.Flow.Ends.{system_ends}
 use Rattle.wc_model.specs.Flow.Walks.{AreStarts}
@@ -9,7 +8,7 @@ use Rattle.wc_nestsolve.specs.declared.found.Found.{Found}
 use Rattle.wc_nestsolve.specs.declared.ways.Ways.{Ways}
 use Rattle.wc_nestsolve.specs.Inner.Orders.{IsDownOrder}
 use Rattle.wc_nestsolve.specs.Inner.Passes.{AreClasses, AreRounds, IsRoundsPass}
-use Rattle.wc_nestsolve.specs.Solvable.{IsSolvable}
+use Rattle.wc_nestsolve.specs.Inner.Solvable.{IsSolvable}
 
 module _ (s : System) where
   pub record AreWays (nest : Nest) (w : Ways) : Type 0 where
@@ -17,12 +16,6 @@ module _ (s : System) where
     pub order : IsDownOrder s nest w.order.items
     pub classes : AreClasses nest w.order.items w.classes.items
     pub starts : AreStarts system_ends (s.nodes + 1) s.steps w.starts.items
-
-  abbrev pub HeadIs : ℕ → ℕ → Type 0
-  HeadIs place head = (l : SystemLoop) → slice_get s.loops place ≡ Some l → head ≡ l.head
-
-  abbrev pub BoundIs : ℕ → ℕ → Type 0
-  BoundIs place bound = (l : SystemLoop) → slice_get s.loops place ≡ Some l → bound ≡ l.bound
 
 -- the rounds of the loops from `count` on, and of all
 abbrev pub FindsRounds : System → Nest → Ways → ℕ → List ℕ → List ℕ → List (Option Found) → Type 0

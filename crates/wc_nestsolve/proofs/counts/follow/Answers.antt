@@ -3,11 +3,8 @@ use Rattle.std.specs.Prelude.{IfSome}
 use Rattle.wc_nestsolve.specs.Inner.Tables.{found_at}
 use Rattle.wc_nestsolve.specs.Inner.Trails.{walk_from}
 use Rattle.wc_nestsolve.proofs.AddLemmas.{follow_ends, follow_last, follow_on, follow_stops}
+use Rattle.wc_nestsolve.proofs.RaiseLemmas.{none_from}
 use Rattle.wc_nestsolve.proofs.counts.follow.Goals as goal
-
-none_from : {X : Type 0} (o : Option X) → ((x : X) → o ≡ Some x → ⊥) → o ≡ None
-none_from None none = refl
-none_from (Some x) none = absurd (none x refl)
 
 pub returns-in_default : goal.returns-in_default
 returns-in_default c =

@@ -1,4 +1,4 @@
--- The system of a graph and its nest, as `solve` needs it.
+-- What the passes need of a system and its nest, in numbers alone.
 use Rattle.std.specs.Prelude.{ℕ, ◌≡◌, ◌<◌, ◌≤◌, ◌^◌, false, List, AllPairs, length, slice_get, Option, Some, None, IfSome}
 use Rattle.wc_model.specs.declared.flow_system.System.{System}
 use Rattle.wc_model.specs.declared.flow_system.SystemStep.{SystemStep}
