@@ -1,5 +1,5 @@
 -- Before the first round is found.
-use Rattle.std.proofs.Common.{◌≡◌, ℕ, zero, suc, ◌==◌, ◌+◌, ◌*◌, ◌-◌, ◌<◌, ◌≤◌, ℤ, pos, ◌*ℤ◌, List, [], ◌∷◌, length, replicate, slice_index, slice_get, Option, Some, None, Bool, true, false, refl, sym, ap, ◌∙◌, arith}
+use Rattle.std.proofs.Common.{◌≡◌, ℕ, zero, suc, ◌==◌, ◌+◌, ◌*◌, ◌-◌, ◌<◌, ◌≤◌, ℤ, pos, ◌*ℤ◌, List, [], ◌∷◌, length, replicate, slice_index, slice_get, Option, Some, None, Bool, true, false, refl, sym, ap, subst, ◌∙◌, arith}
 use Rattle.std.proofs.Math.IntN.{*ℤ-zero}
 use Rattle.std.proofs.Math.ListN.{get_or-eq_default}
 use Rattle.std.proofs.lemmas.Bool.{cases_lt}
@@ -14,6 +14,7 @@ use Rattle.wc_model.specs.declared.graphs.Nest.{Nest}
 use Rattle.wc_model.specs.Flow.Ceiling.{dearest, total}
 use Rattle.wc_nestsolve.specs.declared.found.Found.{Found}
 use Rattle.wc_nestsolve.specs.declared.ways.Ways.{Ways}
+use Rattle.wc_nestsolve.specs.Inner.Nested.{lies}
 use Rattle.wc_nestsolve.specs.Inner.Passes.{bounds_of, numbers, rounds_in, worth_in}
 use Rattle.wc_nestsolve.specs.Inner.Tables.{AreTables, IsClear, charge, found_at}
 use Rattle.wc_nestsolve.specs.Inner.Ways.{FindsRounds}
@@ -66,6 +67,12 @@ module _ (nest : Nest) (s : System) (is : IsSolvable nest s) (w : Ways) where
       charged = λ q. ap pos (zero_at s.nodes q) ∙ no_surcharge q;
       undone = λ m less. zero_at (length s.loops) m;
       done = λ m l at low. absurd (omega (arith, slice_get_within s.loops m l at));
-      roomy = record { whole = no_worths w.order.items; outer = λ m less. no_worths (filter _ w.order.items) };
+      roomy = record { whole = no_worths w.order.items; outer = λ m less. no_worths (filter (lies nest m) w.order.items) };
     };
   }
+
+  pub rounds_begun : (extra v : List ℕ) (best : List (Option Found)) → extra ≡ replicate s.nodes 0 → v ≡ replicate (length s.loops) 0 → best ≡ replicate s.nodes None → FindsRounds s nest w (length s.loops) extra v best
+  rounds_begun extra v best is_extra is_v is_best =
+      subst (λ xs. FindsRounds s nest w (length s.loops) xs v best) (sym is_extra)
+      (subst (λ xs. FindsRounds s nest w (length s.loops) (replicate s.nodes 0) xs best) (sym is_v)
+      (subst (λ xs. FindsRounds s nest w (length s.loops) (replicate s.nodes 0) (replicate (length s.loops) 0) xs) (sym is_best) rounds_begin))

@@ -1,10 +1,14 @@
 -- The last potentials and counts are a solution, and fit its numbers.
 use Rattle.std.proofs.Common.{◌≡◌, ℕ, zero, suc, ◌==◌, ◌+◌, ◌*◌, ◌-◌, ◌<◌, ◌≤◌, ◌^◌, ◌⊎◌, inl, inr, ℤ, pos, neg_ℤ, ◌+ℤ◌, ◌-ℤ◌, ◌*ℤ◌, ◌≤ℤ◌, List, [], ◌∷◌, map, length, slice_index, slice_get, get_or, max, if◌then◌else◌, Option, Some, None, Bool, true, false, refl, sym, ap, ap₂, subst, ◌∙◌, arith, lit<}
 use Rattle.std.proofs.Math.Nat.{mul-le-mul_right}
+use Rattle.std.proofs.Math.IntN.{*ℤ-zero}
+use Rattle.std.proofs.Math.ListN.{get_or-eq_default}
+use Rattle.std.proofs.lemmas.Bool.{cases_lt}
 use Rattle.std.proofs.lemmas.Int.{ints}
 use Rattle.std.proofs.lemmas.Option.{get_or_from_slice_get, slice_get-get_or, slice_get_within}
 use Rattle.std.specs.Prelude.{All}
 use Rattle.wc_base.specs.Sums.{sum_placed, chosen}
+use Rattle.wc_base.proofs.Products.{monotone}
 use Rattle.wc_base.proofs.SumLemmas.{sum_same}
 use Rattle.wc_model.specs.declared.flow_system.Solution.{Solution}
 use Rattle.wc_model.specs.declared.flow_system.System.{System}
@@ -13,10 +17,15 @@ use Rattle.wc_model.specs.declared.flow_system.SystemStep.{SystemStep}
 use Rattle.wc_model.specs.declared.graphs.Nest.{Nest}
 use Rattle.wc_model.specs.Flow.Ceiling.{dearest, total}
 use Rattle.wc_model.specs.Flow.Certificates.{SolutionHolds}
-use Rattle.wc_model.specs.Flow.Counts.{out_of}
+use Rattle.wc_model.specs.Flow.Counts.{entered, out_of}
 use Rattle.wc_model.specs.Flow.Places.{number_at}
+use Rattle.wc_model.specs.Flow.Systems.{IsSystemLoop}
+use Rattle.wc_model.specs.Workspace.Phases.{IsWhole}
+use Rattle.wc_model.proofs.Places.{get_within}
+use Rattle.wc_dual.specs.Wide.{IsWideSolution}
 use Rattle.wc_nestsolve.specs.declared.ways.Ways.{Ways}
 use Rattle.wc_nestsolve.specs.Inner.LastPass.{AreCounts, ArePotentials, IsTurn}
+use Rattle.wc_nestsolve.specs.Inner.Made.{AreNarrow, IsMakable, IsMade}
 use Rattle.wc_nestsolve.specs.Inner.Nested.{IsLoop, IsStep}
 use Rattle.wc_nestsolve.specs.Inner.Passes.{AreRounds, bounds_of, numbers, rounds_in, worth_in}
 use Rattle.wc_nestsolve.specs.Inner.Raising.{potential_at, settled}
@@ -28,7 +37,8 @@ use Rattle.wc_nestsolve.proofs.CountLemmas.{flow_same}
 use Rattle.wc_nestsolve.proofs.EndLemmas.{solution_holds}
 use Rattle.wc_nestsolve.proofs.ListedSums.{get_all}
 use Rattle.wc_nestsolve.proofs.PassLemmas.{whole_room}
-use Rattle.wc_nestsolve.proofs.SmallLemmas.{count_small, part_of}
+use Rattle.wc_nestsolve.proofs.NarrowLemmas.{never_wide}
+use Rattle.wc_nestsolve.proofs.SmallLemmas.{allowed_small, cost_small, count_small, part_of, prefix_small, term_low}
 use Rattle.wc_nestsolve.proofs.WeightLemmas.{same_by, test_apart, test_same}
 
 mapped_at : (xs : List ℕ) (i : ℕ) → number_at (map pos xs) i ≡ numbers xs i
@@ -36,10 +46,10 @@ mapped_at [] i = refl
 mapped_at (x ∷ xs) zero = refl
 mapped_at (x ∷ xs) (suc i) = mapped_at xs i
 
-settled_at : (us : List (Option ℤ)) (p : ℕ) (z : ℤ) → potential_at us p ≡ Some z → number_at (map settled us) p ≡ z
-settled_at [] p z at = cc
-settled_at (u ∷ us) zero z at = ap settled at
-settled_at (u ∷ us) (suc p) z at = settled_at us p z at
+settled_at : (us : List (Option ℤ)) (p : ℕ) → number_at (map settled us) p ≡ settled (potential_at us p)
+settled_at [] p = refl
+settled_at (u ∷ us) zero = refl
+settled_at (u ∷ us) (suc p) = settled_at us p
 
 mapped_length : {A B : Type 0} (f : A → B) (xs : List A) → length (map f xs) ≡ length xs
 mapped_length f [] = refl
@@ -82,23 +92,102 @@ module _ (nest : Nest) (s : System) (w : Ways) (ways : AreWays s nest w) (extra 
               differ : (a == b) ≡ true → ⊥
               differ yes' = cc
 
-  pub surcharge_small : slice_index extra s.start < 2 ^ 100
-  surcharge_small =
-      let place = ways.order.all s.start ways.solvable.sound.start in
-      omega (arith, part_of (charge s nest extra) w.order.items place.0 s.start place.1, whole_room nest s w ways extra v rounds)
+  extra_small : (q : ℕ) → q < s.nodes → slice_index extra q < 2 ^ 100
+  extra_small q known =
+      let place = ways.order.all q known in
+      omega (arith, part_of (charge s nest extra) w.order.items place.0 q place.1, whole_room nest s w ways extra v rounds)
 
-  pub value_near : (neg_ℤ (pos (2 ^ 120)) ≤ℤ value) × (value ≤ℤ pos (2 ^ 120))
-  value_near =
-      let low = turned.potentials.low s.start value turned.potentials.at_start in
-      let high = turned.potentials.high s.start value turned.potentials.at_start in
-      let few : length s.loops ≤ 100000 = omega (arith, ways.solvable.few, ways.solvable.loops_few) in
-      let fits : (length s.loops + 1) * 2 ^ 100 ≤ 2 ^ 120 = omega (arith, few) in
-      (omega (arith, ints, low, fits), omega (arith, ints, high, fits))
+  few : (length s.loops + 1) * 2 ^ 100 ≤ 2 ^ 120
+  few = omega (arith, ways.solvable.few, ways.solvable.loops_few)
 
-  pub finished : (c : Solution) → s.limits ≡ [] → length v ≡ length s.loops → c.x ≡ map pos x → c.u ≡ map settled u → c.v ≡ map pos v → c.w ≡ [] → c.den ≡ pos 1 → c.scale ≡ pos 1
-      → c.num ≡ number_at (map settled u) s.start +ℤ pos (slice_index extra s.start) → SolutionHolds s c
-  finished c unlimited counted xs us vs ws den scale num = solution_holds s nest ways.solvable.nested (numbers v) c (potential_at u) value ways.solvable.sound unlimited ways.solvable.ending turned.potentials.met
-      (flow_same s nest (numbers v) (length s.loops) value (numbers x) (number_at c.x) (λ i. sym (ap (λ zs. number_at zs i) xs ∙ mapped_at x i)) turned.counts.flow)
-      turned.potentials.at_start (λ k. omega (arith, ints)) (λ k. ap (λ zs. number_at zs k) vs ∙ mapped_at v k) (λ p z known at. ap (λ zs. number_at zs p) us ∙ settled_at u p z at)
-      (ap length xs ∙ mapped_length pos x ∙ turned.counts.counted) (ap length us ∙ mapped_length settled u ∙ turned.potentials.counted) (ap length vs ∙ mapped_length pos v ∙ counted) ws den scale
-      (num ∙ ap₂ (λ a b. a +ℤ b) (settled_at u s.start value turned.potentials.at_start) start_part)
+  potential_near : (p : ℕ) → (neg_ℤ (pos (2 ^ 120)) ≤ℤ number_at (map settled u) p) × (number_at (map settled u) p ≤ℤ pos (2 ^ 120))
+  potential_near p = by (potential_at u p) refl
+    where
+      by : (o : Option ℤ) → potential_at u p ≡ o → (neg_ℤ (pos (2 ^ 120)) ≤ℤ number_at (map settled u) p) × (number_at (map settled u) p ≤ℤ pos (2 ^ 120))
+      by None at = let zero_at = settled_at u p ∙ ap settled at in (omega (arith, ints, zero_at), omega (arith, ints, zero_at))
+      by (Some z) at = let is = settled_at u p ∙ ap settled at in (omega (arith, ints, is, turned.potentials.low p z at, few), omega (arith, ints, is, turned.potentials.high p z at, few))
+
+  pub makable : length v ≡ length s.loops → length extra ≡ s.nodes → IsMakable s.start extra v u x
+  makable counted extra_counted = record {
+    start_in = omega (arith, turned.potentials.counted, ways.solvable.sound.start);
+    extra_in = omega (arith, extra_counted, ways.solvable.sound.start);
+    low = (potential_near s.start).0;
+    high = (potential_near s.start).1;
+    small = extra_small s.start ways.solvable.sound.start;
+    counts = counts_small;
+    rounds = rounds_small counted;
+  }
+
+  module _ (c : Solution) (unlimited : s.limits ≡ []) (counted : length v ≡ length s.loops) (made : IsMade s.start extra v u x c) where
+    counts_are : (i : ℕ) → number_at c.x i ≡ numbers x i
+    counts_are i = ap (λ zs. number_at zs i) made.x_is ∙ mapped_at x i
+
+    rounds_are : (k : ℕ) → number_at c.v k ≡ numbers v k
+    rounds_are k = ap (λ zs. number_at zs k) made.v_is ∙ mapped_at v k
+
+    potentials_are : (p : ℕ) (z : ℤ) → potential_at u p ≡ Some z → number_at c.u p ≡ z
+    potentials_are p z at = ap (λ zs. number_at zs p) made.u_is ∙ settled_at u p ∙ ap settled at
+
+    pub made_whole : IsWhole c
+    made_whole = (made.den, made.scale)
+
+    pub made_holds : SolutionHolds s c
+    made_holds = solution_holds s nest ways.solvable.nested (numbers v) c (potential_at u) value ways.solvable.sound unlimited ways.solvable.ending turned.potentials.met
+        (flow_same s nest (numbers v) (length s.loops) value (numbers x) (number_at c.x) (λ i. sym (counts_are i)) turned.counts.flow)
+        turned.potentials.at_start (λ k. omega (arith, ints)) rounds_are (λ p z known at. potentials_are p z at)
+        (ap length made.x_is ∙ mapped_length pos x ∙ turned.counts.counted) (ap length made.u_is ∙ mapped_length settled u ∙ turned.potentials.counted) (ap length made.v_is ∙ mapped_length pos v ∙ counted) made.w_is made.den made.scale
+        (made.num ∙ ap₂ (λ a b. a +ℤ b) (settled_at u s.start ∙ ap settled turned.potentials.at_start) start_part)
+
+    round_small : (k : ℕ) → slice_index v k ≤ 2 ^ 100
+    round_small k = by (cases_lt k (length v))
+      where
+        by : (k < length v) ⊎ (length v ≤ k) → slice_index v k ≤ 2 ^ 100
+        by (inl less) = let own = get_within s.loops k (omega (arith, less, counted)) in let done = rounds.done k own.0 own.1 (omega arith) in omega (arith, done.small)
+        by (inr more) = omega (arith, get_or-eq_default v 0 more)
+
+    -- a loop's surcharge is that of its head
+    surcharge_low : (k : ℕ) (l : SystemLoop) → slice_get s.loops k ≡ Some l → (pos l.bound *ℤ numbers v k) ≤ℤ pos (2 ^ 100)
+    surcharge_low k l at =
+        let known : l.head < s.nodes = (get_all (IsSystemLoop s) s.loops k l at ways.solvable.sound.loops).head in
+        let term = term_low (λ m o. chosen (l.head == o.head) (pos o.bound *ℤ numbers v m)) s.loops (λ m o. some (l.head == o.head) m o) k l at in
+        omega (arith, ints, term.1, ap (λ b. chosen b (pos l.bound *ℤ numbers v k)) (test_same l.head l.head refl), rounds.charged l.head, extra_small l.head known)
+      where
+        some : (b : Bool) (m : ℕ) (o : SystemLoop) → pos 0 ≤ℤ chosen b (pos o.bound *ℤ numbers v m)
+        some true m o = omega (arith, ints, monotone (pos o.bound) (pos 0) (numbers v m) (omega (arith, ints)) (omega (arith, ints)), *ℤ-zero (pos o.bound))
+        some false m o = omega (arith, ints)
+
+    comes : (l : SystemLoop) → entered s.start (pos 1) (number_at c.x) l ≡ entered s.start (pos 1) (numbers x) l
+    comes l = ap (λ z. z +ℤ chosen (l.head == s.start) (pos 1)) (sum_same (λ _ i. number_at c.x i) (λ _ i. numbers x i) l.entry (λ j i at. counts_are i))
+
+    come_low : (k : ℕ) (l : SystemLoop) → slice_get s.loops k ≡ Some l → entered s.start (pos 1) (number_at c.x) l ≤ℤ pos (rounds_in nest (bounds_of s) 0 k l.head)
+    come_low k l at = omega (arith, ints, comes l, turned.counts.come k l at (slice_get_within s.loops k l at))
+
+    made_narrow : AreNarrow s c
+    made_narrow = record {
+      few = omega (arith, ways.solvable.few, ways.solvable.loops_few);
+      unlimited = unlimited;
+      u_low = λ p. subst (λ zs. neg_ℤ (pos (2 ^ 120)) ≤ℤ number_at zs p) (sym made.u_is) (potential_near p).0;
+      u_high = λ p. subst (λ zs. number_at zs p ≤ℤ pos (2 ^ 120)) (sym made.u_is) (potential_near p).1;
+      v_some = λ k. omega (arith, ints, rounds_are k);
+      v_small = λ k. omega (arith, ints, rounds_are k, round_small k);
+      surcharges = λ k l at. omega (arith, ints, ap (λ z. pos l.bound *ℤ z) (rounds_are k), surcharge_low k l at);
+      x_some = λ i. omega (arith, ints, counts_are i);
+      visits = λ p known. omega (
+        arith,
+        ints,
+        sum_same (λ i t. chosen (t.source == p) (number_at c.x i)) (λ i t. chosen (t.source == p) (numbers x i)) s.steps (λ i t at. ap (chosen (t.source == p)) (counts_are i)),
+        turned.counts.seen p known,
+        prefix_small nest s ways.solvable w.order.items ways.order (length s.loops) p (omega arith) known,
+      );
+      come = λ k l at. omega (
+        arith,
+        ints,
+        come_low k l at,
+        prefix_small nest s ways.solvable w.order.items ways.order k l.head (omega (arith, slice_get_within s.loops k l at)) (get_all (IsSystemLoop s) s.loops k l at ways.solvable.sound.loops).head,
+      );
+      allowed = λ k l at. allowed_small nest s ways.solvable w.order.items ways.order k l at (entered s.start (pos 1) (number_at c.x) l) (come_low k l at);
+      costs = λ i t at. omega (arith, cost_small nest s ways.solvable w.order.items ways.order i t at);
+    }
+
+    pub made_never_wide : IsWideSolution s c → ⊥
+    made_never_wide = never_wide s c made_holds made_whole made_narrow

@@ -13,6 +13,7 @@ pub mod FlowLemmas
 pub mod LastLemmas
 pub mod ListedSums
 pub mod LoopLemmas
+pub mod NarrowLemmas
 pub mod NestedLemmas
 pub mod OrderLemmas
 pub mod PassLemmas

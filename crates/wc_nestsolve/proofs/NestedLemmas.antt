@@ -134,12 +134,12 @@ module _ (graph : Graph) (is_graph : IsGraph graph) (nest : Nest) (of : IsNest g
   up_sound zero l i k p is led = absurd (not_both led refl)
   up_sound (suc n) l i k p is led = ⊎_elim
       (λ (same : (k == i) ≡ true). (l, subst (λ (j : ℕ). IsHeadFor graph nest.heads l j p) (sym (same_index k i same)) is))
-      (λ (further : is_listed k (loops_out nest.heads n (parent_of nest.heads i)) ≡ true). by_level l is further)
+      (λ (further : is_listed k (loops_out nest.heads n (parent_of nest.heads i)) ≡ true). by_level l is further (λ m j up rest. up_sound n m j k p up rest))
       (or_true (k == i) (is_listed k (loops_out nest.heads n (parent_of nest.heads i))) led)
     where
-      by_level : (l : ℕ) → IsHeadFor graph nest.heads l i p → is_listed k (loops_out nest.heads n (parent_of nest.heads i)) ≡ true → Lies k p
-      by_level zero is' further = absurd (not_both (sym (ap (λ o. is_listed k (loops_out nest.heads n o)) (top_parent i p is')) ∙ further) refl)
-      by_level (suc m) is' further = let up = parent_for m i p is' in up_sound n m up.0 k p up.3 (sym (ap (λ o. is_listed k (loops_out nest.heads n o)) up.1) ∙ further)
+      by_level : (l : ℕ) → IsHeadFor graph nest.heads l i p → is_listed k (loops_out nest.heads n (parent_of nest.heads i)) ≡ true → ((m j : ℕ) → IsHeadFor graph nest.heads m j p → is_listed k (loops_out nest.heads n (Some j)) ≡ true → Lies k p) → Lies k p
+      by_level zero is' further onward = absurd (not_both (sym (ap (λ o. is_listed k (loops_out nest.heads n o)) (top_parent i p is')) ∙ further) refl)
+      by_level (suc m) is' further onward = let up = parent_for m i p is' in onward m up.0 up.3 (sym (ap (λ o. is_listed k (loops_out nest.heads n o)) up.1) ∙ further)
 
   here_up : (n l i m k p : ℕ) → IsHeadFor graph nest.heads l i p → m ≡ l → IsHeadFor graph nest.heads m k p → is_listed k (loops_out nest.heads (suc n) (Some i)) ≡ true
   here_up n l i m k p is same of_k = ap (λ b. b || is_listed k (loops_out nest.heads n (parent_of nest.heads i)))

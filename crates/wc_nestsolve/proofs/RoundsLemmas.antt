@@ -77,6 +77,11 @@ module _ (nest : Nest) (s : System) (is : IsSolvable nest s) (order : List ℕ) 
       let room = class_room extra (k + 1) (omega (arith, loop_within)) (old.rounds.roomy.outer k (omega arith)) in
       subst (AreFillable s nest extra) (sym same) (class_fillable extra (omega (arith, big, room)))
 
+  pub round_filled : (extra : List ℕ) (best : List (Option Found)) (extra' class : List ℕ) → extra' ≡ extra → class ≡ class_of classes k → IsFilled s nest (Some l.head) extra' class (length class) best
+      → IsFilled s nest (Some l.head) extra (class_of classes k) (length (class_of classes k)) best
+  round_filled extra best extra' class same_extra same filled =
+      subst (λ xs. IsFilled s nest (Some l.head) xs (class_of classes k) (length (class_of classes k)) best) same_extra (subst (λ xs. IsFilled s nest (Some l.head) extra' xs (length xs) best) same filled)
+
   -- the round is found
   module _ (extra v : List ℕ) (first : List (Option Found)) (old : IsRoundsPass s nest order classes (k + 1) extra v first) (best : List (Option Found))
       (filled : IsFilled s nest (Some l.head) extra (class_of classes k) (length (class_of classes k)) best) where

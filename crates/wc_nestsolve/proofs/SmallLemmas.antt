@@ -1,12 +1,17 @@
 -- What the ceiling bounds: how often a node is left, and how often a step is taken.
-use Rattle.std.proofs.Common.{◌≡◌, ℕ, zero, suc, ◌==◌, ◌+◌, ◌*◌, ◌-◌, ◌<◌, ◌≤◌, ◌^◌, ℤ, pos, ◌≤ℤ◌, List, [], ◌∷◌, length, slice_index, slice_get, max, if◌then◌else◌, Some, Bool, true, false, refl, ap, ◌∙◌, arith}
+use Rattle.std.proofs.Common.{◌≡◌, ℕ, zero, suc, ◌==◌, ◌+◌, ◌*◌, ◌-◌, ◌<◌, ◌≤◌, ◌^◌, ℤ, pos, ◌*ℤ◌, ◌≤ℤ◌, List, [], ◌∷◌, length, slice_index, slice_get, max, if◌then◌else◌, Some, option_map, Bool, true, false, refl, ap, ◌∙◌, arith}
 use Rattle.std.proofs.Math.Nat.{mul-le-mul_left, mul-le-mul_right}
+use Rattle.std.proofs.Math.IntN.{pos-*ℤ-pos}
 use Rattle.std.proofs.lemmas.Int.{ints}
+use Rattle.std.proofs.lemmas.Option.{get_or_from_slice_get, none-some, same_Some, slice_get-map, slice_get_within}
 use Rattle.wc_base.specs.Sums.{sum_placed, chosen}
 use Rattle.wc_model.specs.declared.flow_system.System.{System}
+use Rattle.wc_base.proofs.Products.{monotone}
+use Rattle.wc_model.specs.declared.flow_system.SystemLoop.{SystemLoop}
 use Rattle.wc_model.specs.declared.flow_system.SystemStep.{SystemStep}
 use Rattle.wc_model.specs.declared.graphs.Nest.{Nest}
 use Rattle.wc_model.specs.Flow.Ceiling.{dearest, total}
+use Rattle.wc_model.specs.Flow.Systems.{IsSystemLoop}
 use Rattle.wc_model.proofs.Places.{get_within}
 use Rattle.wc_nestsolve.specs.Inner.LastPass.{AreCounts}
 use Rattle.wc_nestsolve.specs.Inner.Nested.{lies}
@@ -45,6 +50,17 @@ dearest_some (t ∷ steps) p = by (t.source == p) (dearest_some steps p)
     by : (b : Bool) → 1 ≤ dearest steps p → 1 ≤ (if b then max t.cost (dearest steps p) else dearest steps p)
     by true rest = omega arith
     by false rest = rest
+
+dearest_cost : (steps : List SystemStep) (i : ℕ) (t : SystemStep) → slice_get steps i ≡ Some t → t.cost ≤ dearest steps t.source
+dearest_cost [] i t at = absurd (none-some t at)
+dearest_cost (r ∷ steps) zero t at =
+    let same : r ≡ t = same_Some r t at in
+    omega (arith, ap (λ o. o.cost) same, ap (λ b. if b then max r.cost (dearest steps t.source) else dearest steps t.source) (test_same r.source t.source (ap (λ o. o.source) same)))
+dearest_cost (r ∷ steps) (suc i) t at = by (r.source == t.source) (dearest_cost steps i t at)
+  where
+    by : (b : Bool) → t.cost ≤ dearest steps t.source → t.cost ≤ (if b then max r.cost (dearest steps t.source) else dearest steps t.source)
+    by true low = omega arith
+    by false low = low
 
 -- the rounds of the first loops are no more than those of all
 rounds_grow : (nest : Nest) (bounds : List ℕ) (count more p : ℕ) → rounds_in nest bounds 0 count p ≤ rounds_in nest bounds 0 (count + more) p
@@ -91,3 +107,35 @@ module _ (nest : Nest) (s : System) (is : IsSolvable nest s) (order : List ℕ) 
       some : (b : Bool) (j : ℕ) → pos 0 ≤ℤ chosen b (numbers x j)
       some true j = omega (arith, ints)
       some false j = omega (arith, ints)
+
+  -- so is a step cheap
+  pub cost_small : (i : ℕ) (t : SystemStep) → slice_get s.steps i ≡ Some t → t.cost < 2 ^ 100
+  cost_small i t at =
+      let place = of.all t.source (get_all (λ r. r.source < s.nodes) s.steps i t at is.sound.sources) in
+      let worth = part_of (worth_in s nest (length s.loops)) order place.0 t.source place.1 in
+      let whole = room_below nest s is order of (length s.loops) (omega arith) in
+      let none_left : length s.loops - length s.loops ≡ 0 = omega arith in
+      let same : worth_in s nest (length s.loops) t.source ≡ dearest s.steps t.source * 1 = ap (λ n. dearest s.steps t.source * rounds_in nest (bounds_of s) (length s.loops) n t.source) none_left in
+      omega (arith, worth, whole, same, dearest_cost s.steps i t at)
+
+  -- a loop's bound for each entry is no more than the rounds of its head
+  pub allowed_small : (k : ℕ) (l : SystemLoop) → slice_get s.loops k ≡ Some l → (n : ℤ) → n ≤ℤ pos (rounds_in nest (bounds_of s) 0 k l.head) → (pos l.bound *ℤ n) ≤ℤ pos (2 ^ 100)
+  allowed_small k l at n low =
+      let within = slice_get_within s.loops k l at in
+      let known : l.head < s.nodes = (get_all (IsSystemLoop s) s.loops k l at is.sound.loops).head in
+      let bound : slice_index (bounds_of s) k ≡ l.bound = get_or_from_slice_get (bounds_of s) k l.bound 0 (slice_get-map (λ o. o.bound) s.loops k ∙ ap (option_map (λ o. o.bound)) at) in
+      let grown = rounds_more nest (bounds_of s) k 0 l.head in
+      let first : 0 + k ≡ k = omega arith in
+      let factor_is : factor nest (bounds_of s) (0 + k) l.head ≡ l.bound + 1 =
+      ap (λ j. factor nest (bounds_of s) j l.head) first ∙ ap (λ b. if b then slice_index (bounds_of s) k + 1 else 1) (is.nested.inside k l at) ∙ ap (λ m. m + 1) bound in
+      let spread : rounds_in nest (bounds_of s) 0 k l.head * (l.bound + 1) ≡ l.bound * rounds_in nest (bounds_of s) 0 k l.head + rounds_in nest (bounds_of s) 0 k l.head = grind arith in
+      omega (
+        arith,
+        ints,
+        monotone (pos l.bound) n (pos (rounds_in nest (bounds_of s) 0 k l.head)) (omega (arith, ints)) low,
+        pos-*ℤ-pos l.bound (rounds_in nest (bounds_of s) 0 k l.head),
+        grown,
+        ap (λ m. rounds_in nest (bounds_of s) 0 k l.head * m) factor_is,
+        spread,
+        prefix_small (k + 1) l.head (omega (arith, within)) known,
+      )

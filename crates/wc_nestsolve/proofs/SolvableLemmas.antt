@@ -33,14 +33,11 @@ use Rattle.wc_nestsolve.proofs.WeightLemmas.{test_apart, test_same}
 -- The places of a list that pass a test.
 listed_later : {X : Type 0} (test : ℕ → X → Bool) (xs : List X) (first n : ℕ) → n < first → is_listed n (places_from first test xs) ≡ false
 listed_later test [] first n less = refl
-listed_later {X} test (x ∷ xs) first n less = by (test first x)
+listed_later {X} test (x ∷ xs) first n less = by (test first x) (listed_later test xs (first + 1) n (omega arith))
   where
-    rest : is_listed n (places_from (first + 1) test xs) ≡ false
-    rest = listed_later test xs (first + 1) n (omega arith)
-
-    by : (b : Bool) → is_listed n (if b then first ∷ places_from (first + 1) test xs else places_from (first + 1) test xs) ≡ false
-    by true = ap (λ c. c || is_listed n (places_from (first + 1) test xs)) (test_apart n first (λ same. absurd (omega arith))) ∙ rest
-    by false = rest
+    by : (b : Bool) → is_listed n (places_from (first + 1) test xs) ≡ false → is_listed n (if b then first ∷ places_from (first + 1) test xs else places_from (first + 1) test xs) ≡ false
+    by true rest = ap (λ c. c || is_listed n (places_from (first + 1) test xs)) (test_apart n first (λ same. absurd (omega arith))) ∙ rest
+    by false rest = rest
 
 listed_from : {X : Type 0} (test : ℕ → X → Bool) (xs : List X) (first i n : ℕ) (x : X) → slice_get xs i ≡ Some x → first + i ≡ n → is_listed n (places_from first test xs) ≡ test n x
 listed_from test [] first i n x at is = absurd (none-some x at)
@@ -55,14 +52,11 @@ listed_from {X} test (y ∷ xs) first zero n x at is = by (test first y) refl
     by : (b : Bool) → test first y ≡ b → is_listed n (if b then first ∷ places_from (first + 1) test xs else places_from (first + 1) test xs) ≡ test n x
     by true yes' = ap (λ c. c || is_listed n (places_from (first + 1) test xs)) (test_same n first (sym here)) ∙ sym yes' ∙ value
     by false no' = listed_later test xs (first + 1) n (omega (arith, here)) ∙ sym no' ∙ value
-listed_from {X} test (y ∷ xs) first (suc i) n x at is = by (test first y)
+listed_from {X} test (y ∷ xs) first (suc i) n x at is = by (test first y) (listed_from test xs (first + 1) i n x at (omega (arith, is)))
   where
-    rest : is_listed n (places_from (first + 1) test xs) ≡ test n x
-    rest = listed_from test xs (first + 1) i n x at (omega (arith, is))
-
-    by : (b : Bool) → is_listed n (if b then first ∷ places_from (first + 1) test xs else places_from (first + 1) test xs) ≡ test n x
-    by true = ap (λ c. c || is_listed n (places_from (first + 1) test xs)) (test_apart n first (λ same. absurd (omega (arith, is)))) ∙ rest
-    by false = rest
+    by : (b : Bool) → is_listed n (places_from (first + 1) test xs) ≡ test n x → is_listed n (if b then first ∷ places_from (first + 1) test xs else places_from (first + 1) test xs) ≡ test n x
+    by true rest = ap (λ c. c || is_listed n (places_from (first + 1) test xs)) (test_apart n first (λ same. absurd (omega (arith, is)))) ∙ rest
+    by false rest = rest
 
 -- The steps and the loops of a system.
 step_of : (gs : List Step) (cs : List ℕ) (i : ℕ) (t : SystemStep) → slice_get (system_steps gs cs) i ≡ Some t → (g : Step) × (slice_get gs i ≡ Some g) × (g.source ≡ t.source) × (g.target ≡ t.target)

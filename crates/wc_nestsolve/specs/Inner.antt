@@ -1,6 +1,7 @@
 pub mod Adding
 pub mod Flows
 pub mod LastPass
+pub mod Made
 pub mod Nested
 pub mod Orders
 pub mod Passes

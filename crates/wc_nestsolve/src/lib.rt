@@ -9,6 +9,7 @@ mod order;
 mod potentials;
 mod rounds;
 mod tables;
+mod turns;
 mod ways;
 mod whole;
 
