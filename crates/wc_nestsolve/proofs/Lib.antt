@@ -10,6 +10,7 @@ pub mod FillLemmas
 pub mod FinishLemmas
 pub mod FirstLemmas
 pub mod FlowLemmas
+pub mod GivenLemmas
 pub mod LastLemmas
 pub mod ListedSums
 pub mod LoopLemmas

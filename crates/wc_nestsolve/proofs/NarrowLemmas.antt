@@ -30,6 +30,9 @@ in_range z low high = (omega (arith, ints, low), omega (arith, ints, high))
 stays : (z : ℤ) → IsOut z → neg_ℤ (pos (2 ^ 126)) ≤ℤ z → z ≤ℤ pos (2 ^ 126) → ⊥
 stays z out low high = out (in_range z low high)
 
+abbrev IsNear : ℤ → ℕ → Type 0
+IsNear z n = (neg_ℤ (pos (n * 2 ^ 100)) ≤ℤ z) × (z ≤ℤ pos (n * 2 ^ 100))
+
 -- a sum of terms that aren't negative grows
 module _ {X : Type 0} where
   sum_some : (f : ℕ → X → ℤ) (xs : List X) → ((i : ℕ) (x : X) → pos 0 ≤ℤ f i x) → pos 0 ≤ℤ sum_placed f xs
@@ -44,9 +47,6 @@ module _ {X : Type 0} where
       (omega (arith, ints, some zero x, rest.0), omega (arith, ints, rest.1))
 
   -- a sum of few small terms is small
-  abbrev IsNear : ℤ → ℕ → Type 0
-  IsNear z n = (neg_ℤ (pos (n * 2 ^ 100)) ≤ℤ z) × (z ≤ℤ pos (n * 2 ^ 100))
-
   part_near : (f : ℕ → X → ℤ) (n : ℕ) (xs : List X) → ((i : ℕ) (x : X) → slice_get xs i ≡ Some x → IsNear (f i x) 1) → IsNear (sum_placed f (take n xs)) (length xs)
   part_near f zero xs each = (omega (arith, ints), omega (arith, ints))
   part_near f (suc n) [] each = (omega (arith, ints), omega (arith, ints))
@@ -145,7 +145,7 @@ module _ (s : System) (c : Solution) (holds : SolutionHolds s c) (whole : IsWhol
   ahead_near None = (omega (arith, ints), omega (arith, ints))
   ahead_near (Some q) = (narrow.u_low q, narrow.u_high q)
 
-  line : SystemStep → ℤ
+  abbrev line : SystemStep → ℤ
   line t = u t.source -ℤ ahead_of u t.target
 
   line_near : (t : SystemStep) → (neg_ℤ (pos (2 ^ 121)) ≤ℤ line t) × (line t ≤ℤ pos (2 ^ 121))

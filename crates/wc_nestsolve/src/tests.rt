@@ -1,271 +1,150 @@
+ghost use Rattle.std.specs.Prelude.{◌≡◌, IfOk, length};
+ghost use Rattle.wc_model.specs.Program.Graphs.{IsGraph};
+
 use crate::solve;
 use std::alloc::{AllocError, Global};
 use std::test::Fail;
-use wc_model::{Graph, Head, Nest, Solution, Step, System, SystemLoop, SystemStep, Table};
+use wc_dual::{Check, check};
+use wc_model::{Bounds, Class, Context, Control, Costs, Graph, Insn, Node, Step, Table};
+use wc_nest::nest;
+use wc_system::system;
 
-type Row<'a> = (
-    &'a [(u32, u32, u64, bool)],
-    &'a [(u32, u32, u32)],
-    &'a [u32],
-    i128,
-);
+const INSN: Insn = Insn {
+    class: Class::Alu,
+    moved: 0,
+    control: Control::Next,
+    always: true,
+};
 
-fn option(n: u32) -> Option<u32> {
-    if n == 99 { None } else { Some(n) }
+const CONTEXTS: [Context; 1] = [Context {
+    parent: None,
+    returns: 0,
+    callee: 0x8000,
+}];
+
+const fn node(pc: u32) -> Node {
+    Node {
+        context: 0,
+        pc,
+        insn: INSN,
+    }
 }
 
-fn problem(alloc: Global, row: &Row) -> Result<(Graph, Nest, System), AllocError> {
-    let (steps, loops, inside, _) = row;
-    let mut own = Vec::new(alloc);
-    let mut numbered = Vec::new(alloc);
-    let mut backs = Vec::new(alloc);
-    for (source, target, cost, back) in *steps {
-        own.push(SystemStep {
-            source: *source,
-            target: option(*target),
-            cost: *cost,
-        })?;
-        numbered.push(Step {
-            source: *source,
-            target: option(*target),
-            taken: false,
-        })?;
-        backs.push(*back)?;
+const fn step(source: u32, target: Option<u32>) -> Step {
+    Step {
+        source,
+        target,
+        taken: false,
     }
-    let mut heads = Vec::new(alloc);
-    let mut system_loops = Vec::new(alloc);
-    for (head, parent, bound) in *loops {
-        heads.push(Head {
-            node: *head,
-            parent: option(*parent),
-        })?;
-        let mut back = Vec::new(alloc);
-        let mut entry = Vec::new(alloc);
-        let mut place = 0;
-        for (_, target, _, is_back) in *steps {
-            if *target == *head {
-                if *is_back {
-                    back.push(place)?;
-                } else {
-                    entry.push(place)?;
-                }
-            }
-            place += 1;
-        }
-        system_loops.push(SystemLoop {
-            head: *head,
-            bound: *bound,
-            back: Table::new(back),
-            entry: Table::new(entry),
-        })?;
-    }
-    let mut within = Vec::new(alloc);
-    for o in *inside {
-        within.push(option(*o))?;
-    }
-    let nodes = inside.len() as u32;
-    Ok((
-        Graph {
-            contexts: Table::new(Vec::new(alloc)),
-            nodes: Table::new(Vec::new(alloc)),
-            steps: Table::new(numbered),
-            start: 0,
-        },
-        Nest {
-            heads: Table::new(heads),
-            inside: Table::new(within),
-            back: Table::new(backs),
-        },
-        System {
-            nodes,
-            steps: Table::new(own),
-            start: 0,
-            loops: Table::new(system_loops),
-            limits: Table::new(Vec::new(alloc)),
-        },
-    ))
 }
 
-fn value(system: &System, s: &Solution) -> i128 {
-    let mut sum = 0;
-    for (t, x) in system.steps.items().iter().zip(s.x.items()) {
-        sum += t.cost as i128 * *x;
-    }
-    sum
+const NODES: [Node; 6] = [
+    node(0x8000),
+    node(0x8004),
+    node(0x8008),
+    node(0x800C),
+    node(0x8010),
+    node(0x8014),
+];
+
+// A loop round the start, with a loop of one node on one of its two branches; then a loop of two nodes.
+const STEPS: [Step; 10] = [
+    step(0, Some(1)),
+    step(1, Some(2)),
+    step(1, Some(3)),
+    step(2, Some(2)),
+    step(2, Some(3)),
+    step(3, Some(0)),
+    step(3, Some(4)),
+    step(4, Some(5)),
+    step(5, Some(4)),
+    step(5, None),
+];
+
+fn three_loops(alloc: Global) -> Result<Graph, AllocError>
+    ensures graph { IfOk result IsGraph }
+    ensures counted { IfOk result (λ g. length g.steps ≡ 10) }
+{
+    Ok(Graph {
+        contexts: Table::new(CONTEXTS.to_vec(alloc)?),
+        nodes: Table::new(NODES.to_vec(alloc)?),
+        steps: Table::new(STEPS.to_vec(alloc)?),
+        start: 0,
+    })
 }
 
-fn holds(rt: &HostRuntime, system: &System, s: &Solution) -> bool {
-    let mut ok = true;
-    for p in 0..system.nodes {
-        let mut sum: i128 = 0;
-        for (t, x) in system.steps.items().iter().zip(s.x.items()) {
-            if t.source == p {
-                sum += *x;
-            }
-            if t.target == Some(p) {
-                sum -= *x;
-            }
-        }
-        if sum != (if p == 0 { 1 } else { 0 }) {
-            ok = false;
-        }
+// The optimum of the three loops, and what is found of its certificate; nothing where a phase before refuses.
+fn optimum(
+    alloc: Global,
+    bounds: [u32; 3],
+    costs: [u64; 10],
+) -> Result<Option<(i128, Check)>, AllocError> {
+    let graph = three_loops(alloc)?;
+    let bounds = Bounds {
+        of: Table::new(bounds.to_vec(alloc)?),
+    };
+    let costs = Costs {
+        of: Table::new(costs.to_vec(alloc)?),
+    };
+    let facts = Table::new(Vec::new(alloc));
+    let Ok(nest) = nest(alloc, &graph) else {
+        return Ok(None);
+    };
+    if nest.heads.items().len() != 3 {
+        return Ok(None);
     }
-    for l in system.loops.items() {
-        let mut back = 0;
-        let mut entry: i128 = if l.head == 0 { 1 } else { 0 };
-        for i in l.back.items() {
-            back += s.x.items()[*i as usize];
-        }
-        for i in l.entry.items() {
-            entry += s.x.items()[*i as usize];
-        }
-        if back > entry * l.bound as i128 {
-            ok = false;
-        }
-    }
-    let mut i = 0;
-    for t in system.steps.items() {
-        let mut price = s.u.items()[t.source as usize];
-        if let Some(q) = t.target {
-            price -= s.u.items()[q as usize];
-        }
-        let mut k = 0;
-        for l in system.loops.items() {
-            if l.back.items().contains(&i) {
-                price += s.v.items()[k];
-            }
-            if l.entry.items().contains(&i) {
-                price -= l.bound as i128 * s.v.items()[k];
-            }
-            k += 1;
-        }
-        if price < t.cost as i128 {
-            ok = false;
-        }
-        i += 1;
-    }
-    ok
+    let Ok(system) = system(alloc, &graph, &nest, &bounds, &costs, &facts) else {
+        return Ok(None);
+    };
+    let solution = solve(alloc, &graph, &nest, &system)?;
+    Ok(Some((solution.num, check(&system, &solution))))
 }
 
+// Bounds of the loop round the start, of the last one and of the one inside, then the costs of the steps.
 #[test]
-fn rows(rt: HostRuntime) -> Result<(), Fail> {
-    let e = 99;
-    let rows: [Row; 9] = [
-        // code A
+fn each_loop_goes_its_best_round_as_often_as_its_bound_allows(
+    rt: HostRuntime,
+) -> Result<(), Fail> {
+    let most = u32::MAX;
+    let rows: [([u32; 3], [u64; 10], i128); 8] = [
+        // three times 1 + 1 + 3 + 1, two steps back, then 1 + 4 + 3 + 1
+        ([2, 3, 3], [1, 1, 1, 1, 1, 1, 1, 1, 1, 1], 29),
+        // bounds of 0: 1 + 1 + 1, then 1 + 1 + 1
+        ([0, 0, 0], [1, 1, 1, 1, 1, 1, 1, 1, 1, 1], 6),
+        // the branch without the loop inside is the dearer one: three times 1 + 100, two steps back, then 1 + 1 + 1
+        ([2, 0, 3], [1, 1, 100, 1, 1, 1, 1, 1, 1, 1], 308),
+        // a step back costs less than the exit: 1 + 1 + 1, then 1 + 6 + 5 + 40
+        ([0, 5, 0], [1, 1, 1, 1, 1, 1, 1, 1, 1, 40], 55),
+        // two best ways: twice 1 + 4, a step back, then 1 + 1 + 1
+        ([1, 0, 2], [1, 1, 4, 1, 1, 1, 1, 1, 1, 1], 14),
+        // rounds that cost nothing
+        ([9, 9, 9], [0, 0, 0, 0, 0, 0, 0, 0, 0, 7], 7),
+        // the loop inside is entered three times: three times 5, two steps back of 10, then 1 + 1 + 1
+        ([2, 0, 4], [0, 0, 0, 1, 1, 10, 1, 1, 1, 1], 38),
+        // the ceiling is 2^100 - 1
         (
-            &[
-                (0, 1, 1, false),
-                (1, 2, 1, false),
-                (2, 1, 1, true),
-                (2, 3, 1, false),
-                (3, e, 1, false),
+            [most, 0, most],
+            [
+                1,
+                1,
+                1,
+                (1 << 36) - 1,
+                1,
+                1,
+                1,
+                18446744060824649726,
+                0,
+                1,
             ],
-            &[(1, e, 9)],
-            &[e, 0, 0, e],
-            22,
-        ),
-        (
-            &[
-                (0, 1, 1, false),
-                (1, 2, 1, false),
-                (2, 1, 1, true),
-                (2, 3, 1, false),
-                (3, e, 1, false),
-            ],
-            &[(1, e, 0)],
-            &[e, 0, 0, e],
-            4,
-        ),
-        (
-            &[
-                (0, 1, 1, false),
-                (1, 2, 1, false),
-                (2, 1, 1, true),
-                (2, 3, 1, false),
-                (3, e, 1, false),
-            ],
-            &[(1, e, 3)],
-            &[e, 0, 0, e],
-            10,
-        ),
-        // R7a
-        (
-            &[
-                (0, 1, 1, false),
-                (1, 2, 1, false),
-                (2, 3, 1, false),
-                (3, 2, 1, true),
-                (3, 4, 1, false),
-                (4, 5, 1, false),
-                (5, 1, 1, true),
-                (5, 6, 1, false),
-                (6, e, 1, false),
-            ],
-            &[(1, e, 2), (2, 0, 3)],
-            &[e, 0, 1, 1, 0, 0, e],
-            35,
-        ),
-        // three nested loops, the start is a head
-        (
-            &[
-                (0, 1, 1, false),
-                (1, 2, 1, false),
-                (2, 3, 1, false),
-                (3, 2, 1, true),
-                (3, 4, 1, false),
-                (4, 5, 1, false),
-                (5, 1, 1, true),
-                (5, 6, 1, false),
-                (6, 7, 1, false),
-                (7, 0, 1, true),
-                (7, 8, 1, false),
-                (8, e, 1, false),
-            ],
-            &[(0, e, 4294967295), (1, 0, 4294967295), (2, 1, 4294967295)],
-            &[0, 1, 2, 2, 1, 1, 0, 0, e],
-            158456325083868907421101457409,
-        ),
-        // a loop on one branch only, entered twice
-        (
-            &[
-                (0, 1, 5, false),
-                (0, 2, 1, false),
-                (1, 2, 1, false),
-                (2, 3, 1, false),
-                (3, 2, 10, true),
-                (3, 4, 1, false),
-                (4, e, 1, false),
-            ],
-            &[(2, e, 2)],
-            &[e, e, 0, 0, e],
-            31,
-        ),
-        (&[(0, e, 3, false), (0, 0, 2, true)], &[(0, e, 7)], &[0], 17),
-        (&[(0, e, 3, false), (0, 0, 0, true)], &[(0, e, 7)], &[0], 3),
-        // while loop whose body has another loop; the way out is at the head
-        (
-            &[
-                (0, 1, 2, false),
-                (1, 2, 1, false),
-                (1, 5, 1, false),
-                (2, 3, 4, false),
-                (2, 4, 9, false),
-                (3, 3, 7, true),
-                (3, 4, 0, false),
-                (4, 1, 0, true),
-                (5, e, 0, false),
-            ],
-            &[(1, e, 3), (3, 0, 2)],
-            &[e, 0, 0, 1, 0, e],
-            60,
+            1267650599933081496325940314111,
         ),
     ];
-    for row in &rows {
-        let (graph, nest, system) = problem(rt.alloc(), row)?;
-        let s = solve(rt.alloc(), &graph, &nest, &system)?;
-        assert_eq!(rt; s.num, row.3);
-        assert_eq!(rt; value(&system, &s), row.3);
-        assert_eq!(rt; holds(&rt, &system, &s), true, "{}", row.3);
+    for (bounds, costs, value) in rows {
+        let Some((num, answer)) = optimum(rt.alloc(), bounds, costs)? else {
+            return Err(Fail::new("refused"));
+        };
+        assert_eq!(rt; num, value);
+        assert!(rt; matches!(answer, Check::Yes));
     }
     Ok(())
 }

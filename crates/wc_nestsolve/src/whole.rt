@@ -1,4 +1,4 @@
-ghost use Rattle.std.specs.Prelude.{◌≡◌, ◌<◌, ◌^◌, ◌+ℤ◌, ◌≤ℤ◌, [], ⊥, All, IfOk, map, neg_ℤ, pos, length, slice_index};
+ghost use Rattle.std.specs.Prelude.{◌≡◌, ◌<◌, ◌^◌, ◌+ℤ◌, ◌≤ℤ◌, [], All, IfOk, map, neg_ℤ, pos, length, slice_index};
 ghost use Rattle.wc_dual.specs.Wide.{IsWideSolution};
 ghost use Rattle.wc_model.specs.Flow.Ceiling.{ceiling_of};
 ghost use Rattle.wc_model.specs.Flow.Certificates.{SolutionHolds};
