@@ -13,11 +13,9 @@ use Rattle.wc_model.specs.declared.flow_system.SystemLoop.{SystemLoop}
 use Rattle.wc_model.specs.declared.graphs.Nest.{Nest}
 use Rattle.wc_model.specs.Flow.Ceiling.{dearest, total}
 use Rattle.wc_nestsolve.specs.declared.found.Found.{Found}
-use Rattle.wc_nestsolve.specs.declared.ways.Ways.{Ways}
 use Rattle.wc_nestsolve.specs.Inner.Nested.{lies}
-use Rattle.wc_nestsolve.specs.Inner.Passes.{bounds_of, numbers, rounds_in, worth_in}
+use Rattle.wc_nestsolve.specs.Inner.Passes.{IsRoundsPass, bounds_of, numbers, rounds_in, worth_in}
 use Rattle.wc_nestsolve.specs.Inner.Tables.{AreTables, IsClear, charge, found_at}
-use Rattle.wc_nestsolve.specs.Inner.Ways.{FindsRounds}
 use Rattle.wc_nestsolve.specs.Inner.Weights.{surcharge}
 use Rattle.wc_nestsolve.specs.Inner.Solvable.{IsSolvable}
 
@@ -31,7 +29,7 @@ none_at zero p = refl
 none_at (suc n) zero = refl
 none_at (suc n) (suc p) = none_at n p
 
-module _ (nest : Nest) (s : System) (is : IsSolvable nest s) (w : Ways) where
+module _ (nest : Nest) (s : System) (is : IsSolvable nest s) (order : List ℕ) (classes : List (List ℕ)) where
   no_worth : (q : ℕ) → charge s nest (replicate s.nodes 0) q ≤ worth_in s nest (length s.loops) q
   no_worth q =
       let none_left : length s.loops - length s.loops ≡ 0 = omega arith in
@@ -58,7 +56,7 @@ module _ (nest : Nest) (s : System) (is : IsSolvable nest s) (w : Ways) where
     best_counted = length-replicate s.nodes None;
   }
 
-  pub rounds_begin : FindsRounds s nest w (length s.loops) (replicate s.nodes 0) (replicate (length s.loops) 0) (replicate s.nodes None)
+  pub rounds_begin : IsRoundsPass s nest order classes (length s.loops) (replicate s.nodes 0) (replicate (length s.loops) 0) (replicate s.nodes None)
   rounds_begin = record {
     tables = first_tables;
     clear = none_at s.nodes;
@@ -67,12 +65,12 @@ module _ (nest : Nest) (s : System) (is : IsSolvable nest s) (w : Ways) where
       charged = λ q. ap pos (zero_at s.nodes q) ∙ no_surcharge q;
       undone = λ m less. zero_at (length s.loops) m;
       done = λ m l at low. absurd (omega (arith, slice_get_within s.loops m l at));
-      roomy = record { whole = no_worths w.order.items; outer = λ m less. no_worths (filter (lies nest m) w.order.items) };
+      roomy = record { whole = no_worths order; outer = λ m less. no_worths (filter (lies nest m) order) };
     };
   }
 
-  pub rounds_begun : (extra v : List ℕ) (best : List (Option Found)) → extra ≡ replicate s.nodes 0 → v ≡ replicate (length s.loops) 0 → best ≡ replicate s.nodes None → FindsRounds s nest w (length s.loops) extra v best
+  pub rounds_begun : (extra v : List ℕ) (best : List (Option Found)) → extra ≡ replicate s.nodes 0 → v ≡ replicate (length s.loops) 0 → best ≡ replicate s.nodes None → IsRoundsPass s nest order classes (length s.loops) extra v best
   rounds_begun extra v best is_extra is_v is_best =
-      subst (λ xs. FindsRounds s nest w (length s.loops) xs v best) (sym is_extra)
-      (subst (λ xs. FindsRounds s nest w (length s.loops) (replicate s.nodes 0) xs best) (sym is_v)
-      (subst (λ xs. FindsRounds s nest w (length s.loops) (replicate s.nodes 0) (replicate (length s.loops) 0) xs) (sym is_best) rounds_begin))
+      subst (λ xs. IsRoundsPass s nest order classes (length s.loops) xs v best) (sym is_extra)
+      (subst (λ xs. IsRoundsPass s nest order classes (length s.loops) (replicate s.nodes 0) xs best) (sym is_v)
+      (subst (λ xs. IsRoundsPass s nest order classes (length s.loops) (replicate s.nodes 0) (replicate (length s.loops) 0) xs) (sym is_best) rounds_begin))

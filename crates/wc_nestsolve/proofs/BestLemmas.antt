@@ -1,5 +1,6 @@
 -- The best of some steps, one step after another.
 use Rattle.std.proofs.Common.{◌≡◌, ℕ, ◌+◌, ◌<◌, ◌≤◌, ◌⊎◌, inl, inr, nat_le, slice_get, List, Option, Some, None, Bool, true, false, if◌then◌else◌, refl, sym, ap, subst, ◌∙◌, arith}
+use Rattle.std.proofs.lemmas.Option.{same_Some}
 use Rattle.std.proofs.lemmas.Bool.{cases_lt, cases_eq}
 use Rattle.std.proofs.lemmas.Bool.Decides.{nat_tests}
 use Rattle.wc_model.specs.declared.flow_system.System.{System}
@@ -10,10 +11,7 @@ use Rattle.wc_nestsolve.specs.declared.found.Found.{Found}
 use Rattle.wc_nestsolve.specs.Inner.Nested.{IsStep}
 use Rattle.wc_nestsolve.specs.Inner.Tables.{IsBestIn, IsLooked, better_of, worth_of}
 
-same_some : {X : Type 0} (x y : X) → Some x ≡ Some y → x ≡ y
-same_some x y is = cc
-
-better_up : (found : Option Found) (w : Option ℕ) (place : ℕ) (f : Found) → found ≡ Some f → (g : Found) × (better_of found w place ≡ Some g) × (f.value ≤ g.value)
+pub better_up : (found : Option Found) (w : Option ℕ) (place : ℕ) (f : Found) → found ≡ Some f → (g : Found) × (better_of found w place ≡ Some g) × (f.value ≤ g.value)
 better_up None w place f is = cc
 better_up (Some h) None place f is = (h, refl, let same : f ≡ h = cc in omega (arith, ap (λ x. x.value) same))
 better_up (Some h) (Some z) place f is = by (nat_le z h.value) refl
@@ -25,7 +23,7 @@ better_up (Some h) (Some z) place f is = by (nat_le z h.value) refl
     by true le = (h, refl, omega (arith, ap (λ x. x.value) same))
     by false more = (record { value = z; place = place }, refl, let high : h.value < z = grind (arith, nat_tests) in omega (arith, ap (λ x. x.value) same))
 
-better_new : (found : Option Found) (z place : ℕ) → (g : Found) × (better_of found (Some z) place ≡ Some g) × (z ≤ g.value)
+pub better_new : (found : Option Found) (z place : ℕ) → (g : Found) × (better_of found (Some z) place ≡ Some g) × (z ≤ g.value)
 better_new None z place = (record { value = z; place = place }, refl, omega arith)
 better_new (Some h) z place = by (nat_le z h.value) refl
   where
@@ -33,7 +31,7 @@ better_new (Some h) z place = by (nat_le z h.value) refl
     by true le = (h, refl, grind (arith, nat_tests))
     by false more = (record { value = z; place = place }, refl, omega arith)
 
-better_one : (found : Option Found) (w : Option ℕ) (place : ℕ) (g : Found) → better_of found w place ≡ Some g → (found ≡ Some g) ⊎ ((w ≡ Some g.value) × (g.place ≡ place))
+pub better_one : (found : Option Found) (w : Option ℕ) (place : ℕ) (g : Found) → better_of found w place ≡ Some g → (found ≡ Some g) ⊎ ((w ≡ Some g.value) × (g.place ≡ place))
 better_one found None place g is = inl is
 better_one None (Some z) place g is = let same : g ≡ record { value = z; place = place } = cc in inr (ap Some (sym (ap (λ x. x.value) same)), ap (λ x. x.place) same)
 better_one (Some h) (Some z) place g is = by (nat_le z h.value) is
@@ -60,7 +58,7 @@ module _ (s : System) (nest : Nest) (goal : Option ℕ) (extra : List ℕ) (best
           (up.0, looked.2 ∙ up.1, omega (arith, before.2, up.2))
       most_at i z t at low high worth (inr more) =
           let same : i ≡ place = omega arith in
-          let step : t ≡ looked.0 = same_some t looked.0 (sym at ∙ ap (λ n. slice_get s.steps n) same ∙ looked.1) in
+          let step : t ≡ looked.0 = same_Some t looked.0 (sym at ∙ ap (λ n. slice_get s.steps n) same ∙ looked.1) in
           let value : worth_of goal (is_marked nest place) looked.0 extra best ≡ Some z = sym (ap (λ n. worth_of goal (is_marked nest n) looked.0 extra best) same) ∙ sym (ap (λ x. worth_of goal (is_marked nest i) x extra best) step) ∙ worth in
           let up = better_new found z place in
           (up.0, looked.2 ∙ ap (λ o. better_of found o place) value ∙ up.1, up.2)

@@ -5,7 +5,7 @@ use Rattle.std.proofs.lemmas.Bool.Decides.{nat_tests}
 use Rattle.std.proofs.lemmas.List.{append-nil, get_or-set_same, get_or-set_other, length-set}
 use Rattle.std.proofs.lemmas.List.Elements.{filter_more}
 use Rattle.std.proofs.lemmas.List.Kept.{AllPairs-filter}
-use Rattle.std.proofs.lemmas.Option.{get_or_from_slice_get, slice_get-get_or, slice_get_within}
+use Rattle.std.proofs.lemmas.Option.{get_or_from_slice_get, same_Some, slice_get-get_or, slice_get_within}
 use Rattle.std.specs.List.{AllPairs, filter}
 use Rattle.std.specs.Option.{option_and_then}
 use Rattle.std.specs.Prelude.{IfSome}
@@ -20,9 +20,6 @@ use Rattle.wc_nestsolve.specs.Inner.Nested.{IsStep, lies}
 use Rattle.wc_nestsolve.specs.Inner.Passes.{AreClasses, HasJoined, IsJoining, class_of, loops_from, more_if, rank_of}
 use Rattle.wc_nestsolve.specs.Inner.Tables.{IsAmong, IsDownward}
 use Rattle.wc_nestsolve.proofs.WeightLemmas.{test_apart, test_same}
-
-same_some : {X : Type 0} (x y : X) → Some x ≡ Some y → x ≡ y
-same_some x y is = cc
 
 -- The loops round a node, whatever the number that limits the walk outwards.
 module _ (heads : List Head) (parents : (k : ℕ) (h : Head) → slice_get heads k ≡ Some h → IfSome h.parent (λ j. j < k)) where
@@ -179,14 +176,14 @@ filter_from test (x ∷ xs) i p at = by (λ n at'. filter_from test xs n p at') 
 
     by : ((n : ℕ) → slice_get (filter test xs) n ≡ Some p → (test p ≡ true) × ((j : ℕ) × (slice_get xs j ≡ Some p))) → (b : Bool) → test x ≡ b → (i : ℕ) → slice_get (cond b (x ∷ filter test xs) (filter test xs)) i ≡ Some p
         → (test p ≡ true) × ((j : ℕ) × (slice_get (x ∷ xs) j ≡ Some p))
-    by more true is zero at' = let same : x ≡ p = same_some x p at' in (ap test (sym same) ∙ is, (zero, ap Some same))
+    by more true is zero at' = let same : x ≡ p = same_Some x p at' in (ap test (sym same) ∙ is, (zero, ap Some same))
     by more true is (suc i) at' = later more i at'
     by more false is i at' = later more i at'
 
 pub filter_into : (test : ℕ → Bool) (xs : List ℕ) (j p : ℕ) → slice_get xs j ≡ Some p → test p ≡ true → (i : ℕ) × (slice_get (filter test xs) i ≡ Some p)
 filter_into test [] j p at is = cc
 filter_into test (x ∷ xs) zero p at is =
-    let same : x ≡ p = same_some x p at in
+    let same : x ≡ p = same_Some x p at in
     (zero, ap (λ b. slice_get (cond b (x ∷ filter test xs) (filter test xs)) zero) (ap test same ∙ is) ∙ ap Some same)
 filter_into test (x ∷ xs) (suc j) p at is = by (test x) (filter_into test xs j p at is)
   where
@@ -237,7 +234,7 @@ module _ (s : System) (nest : Nest) (order : List ℕ) (down : IsDownward s nest
           two (inl less) = absurd ((pair_at i j t.source q less at_i at_j).1 n t at ahead refl to)
           two (inr even) =
               let same : i ≡ j = omega arith in
-              let self : t.source ≡ q = same_some t.source q (sym at_i ∙ ap (slice_get (filter test order)) same ∙ at_j) in
+              let self : t.source ≡ q = same_Some t.source q (sym at_i ∙ ap (slice_get (filter test order)) same ∙ at_j) in
               let place = (filter_from test order i t.source at_i).1 in
               let lower = down.lower n place.0 place.0 q t at ahead to place.1 (place.1 ∙ ap Some self) in
               absurd (omega arith)

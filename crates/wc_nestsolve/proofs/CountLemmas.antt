@@ -4,7 +4,7 @@ use Rattle.std.proofs.Math.IntN.{*ℤ-zero, pos-*ℤ-pos}
 use Rattle.std.proofs.Math.Nat.{mul-le-mul, mul-le-mul_left}
 use Rattle.std.proofs.lemmas.Bool.{cases_eq, cases_lt}
 use Rattle.std.proofs.lemmas.Int.{ints}
-use Rattle.std.proofs.lemmas.Option.{slice_get_within}
+use Rattle.std.proofs.lemmas.Option.{same_Some, slice_get_within}
 use Rattle.std.specs.List.{sum_by}
 use Rattle.wc_base.specs.Sums.{sum_placed, sum_in, chosen}
 use Rattle.wc_base.proofs.Products.{monotone, times_one}
@@ -32,9 +32,6 @@ use Rattle.wc_nestsolve.proofs.RoomLemmas.{sum_total}
 use Rattle.wc_nestsolve.proofs.SeenLemmas.{entered_is, leaves_inside, leaves_once, rounds_more, trail_once}
 use Rattle.wc_nestsolve.proofs.TrailLemmas.{round_of, trail_linear}
 use Rattle.wc_nestsolve.proofs.WeightLemmas.{same_by, test_apart, test_same}
-
-same_some : {X : Type 0} (x y : X) → Some x ≡ Some y → x ≡ y
-same_some x y is = cc
 
 -- equal counts are the same flow
 pub flow_same : (s : System) (nest : Nest) (v : ℕ → ℤ) (count : ℕ) (value : ℤ) (x y : ℕ → ℤ) → ((i : ℕ) → x i ≡ y i) → IsFlow s nest v count value x → IsFlow s nest v count value y
@@ -136,7 +133,7 @@ module _ (s : System) (nest : Nest) (is : IsNested s nest) (sound : IsSystem s) 
   come_to m o there (inl less) low = old.come m o there less
   come_to m o there (inr more) low =
       let same : k ≡ m = omega arith in
-      let one : l ≡ o = same_some l o (sym here ∙ ap (slice_get s.loops) same ∙ there) in
+      let one : l ≡ o = same_Some l o (sym here ∙ ap (slice_get s.loops) same ∙ there) in
       subst (λ j. entered s.start (pos 1) (numbers x) o ≤ℤ pos (seen_to j o.head)) same (subst (λ a. entered s.start (pos 1) (numbers x) a ≤ℤ pos (seen_to k a.head)) one come_own)
 
   -- a loop that isn't gone round

@@ -80,11 +80,11 @@ module _ (s : System) (nest : Nest) (is : IsNested s nest) (v : ℕ → ℤ) whe
     has_potential p (onward r step rest) = let next = has_potential r rest in by_step p (Some r) next.0 next.1 step
 
     -- the potentials and the rounds are prices
-    pub prices_hold : (w : ℕ → ℤ) (known : IsSystem s) (ending : (p : ℕ) → p < s.nodes → Ends (Joins system_ends s.steps) p) (us : ℕ → ℤ) → s.limits ≡ [] → ((p : ℕ) (z : ℤ) → p < s.nodes → u p ≡ Some z → us p ≡ z)
-        → ((k : ℕ) → pos 0 ≤ℤ v k) → ArePrices s (scaled (pos 1)) (record { u = us; v = v; w = w })
-    prices_hold w known ending us unlimited same some = record {
+    pub prices_hold : (w : ℕ → ℤ) (known : IsSystem s) (ending : (p : ℕ) → p < s.nodes → Ends (Joins system_ends s.steps) p) (us : ℕ → ℤ) → ((k : ℕ) → k < length s.limits → pos 0 ≤ℤ w k) → ((p : ℕ) → limit_price w s.limits p ≡ pos 0)
+        → ((p : ℕ) (z : ℤ) → p < s.nodes → u p ≡ Some z → us p ≡ z) → ((k : ℕ) → pos 0 ≤ℤ v k) → ArePrices s (scaled (pos 1)) (record { u = us; v = v; w = w })
+    prices_hold w known ending us limits nothing same some = record {
       loops_some = λ k within. some k;
-      limits_some = λ k within. absurd (omega (arith, within, ap length unlimited));
+      limits_some = limits;
       steps = λ i t at. line i t at;
     }
       where
@@ -104,8 +104,7 @@ module _ (s : System) (nest : Nest) (is : IsNested s nest) (v : ℕ → ℤ) whe
             let low : Covers (Some p.0) (Some (weight s v i t +ℤ ahead_of us t.target)) =
             subst (λ x. Covers x (Some (weight s v i t +ℤ ahead_of us t.target))) p.1
             (subst (λ x. Covers (u t.source) (plus (weight s v i t) x)) (ahead_is t.target (targeted i t at)) (all_met i t at)) in
-            let none : limit_price w s.limits t.source ≡ pos 0 = ap (λ ls. limit_price w ls t.source) unlimited in
-            omega (arith, ints, low, same t.source p.0 (sourced i t at) p.1, times_one (cycles t), none)
+            omega (arith, ints, low, same t.source p.0 (sourced i t at) p.1, times_one (cycles t), nothing t.source)
 
   -- The whole.
   pub solution_holds : (c : Solution) (u : ℕ → Option ℤ) (value : ℤ) → IsSystem s → s.limits ≡ [] → ((p : ℕ) → p < s.nodes → Ends (Joins system_ends s.steps) p)
@@ -127,7 +126,7 @@ module _ (s : System) (nest : Nest) (is : IsNested s nest) (v : ℕ → ℤ) whe
     where
       priced : ArePrices s (scaled (pos 1)) (solution_prices c)
       priced =
-          let p = prices_hold u met (number_at c.w) known ending (number_at c.u) unlimited us some in
+          let p = prices_hold u met (number_at c.w) known ending (number_at c.u) (λ k within. absurd (omega (arith, within, ap length unlimited))) (λ p. ap (λ ls. limit_price (number_at c.w) ls p) unlimited) us some in
           record {
             loops_some = λ k within. subst (λ z. pos 0 ≤ℤ z) (sym (vs k)) (some k);
             limits_some = p.limits_some;

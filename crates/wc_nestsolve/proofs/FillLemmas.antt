@@ -4,7 +4,7 @@ use Rattle.std.proofs.lemmas.Bool.{cases_lt, cases_eq}
 use Rattle.std.proofs.lemmas.Bool.Decides.{nat_tests}
 use Rattle.std.proofs.lemmas.List.{get_or-set_same, get_or-set_other, length-set}
 use Rattle.std.proofs.lemmas.List.Sums.{sum_by_more, sum_by-take-le}
-use Rattle.std.proofs.lemmas.Option.{get_or_from_slice_get, slice_get_within}
+use Rattle.std.proofs.lemmas.Option.{get_or_from_slice_get, same_Some, slice_get_within}
 use Rattle.std.specs.List.{sum_by}
 use Rattle.wc_model.specs.declared.flow_system.System.{System}
 use Rattle.wc_model.specs.declared.flow_system.SystemStep.{SystemStep}
@@ -18,9 +18,6 @@ use Rattle.wc_nestsolve.specs.Inner.Nested.{IsStep}
 use Rattle.wc_nestsolve.specs.Inner.Tables.{AreFillable, AreSmall, AreTables, IsAmong, IsAttained, IsBestIn, IsBestOf, IsClear, IsFilled, StandIn, charge, found_at, reach, worth_of}
 use Rattle.wc_nestsolve.proofs.TableLemmas.{table_more}
 use Rattle.wc_nestsolve.proofs.WeightLemmas.{test_same}
-
-same_some : {X : Type 0} (x y : X) → Some x ≡ Some y → x ≡ y
-same_some x y is = cc
 
 -- a step costs at most what the dearest of its node does
 pub dearest_low : (steps : List SystemStep) (i p : ℕ) (t : SystemStep) → slice_get steps i ≡ Some t → t.source ≡ p → t.cost ≤ dearest steps p
@@ -104,18 +101,18 @@ module _ (s : System) (nest : Nest) (goal : Option ℕ) (extra nodes : List ℕ)
 
     -- what a way goes on with is within the sum so far
     worth_low : (goal : Option ℕ) (b : Bool) (cost z : ℕ) (o : Option ℕ) → reach goal b cost o extra best ≡ Some z → z ≤ cost + sum_to i
-    worth_low None b cost z None worth = omega (arith, same_some cost z worth)
+    worth_low None b cost z None worth = omega (arith, same_Some cost z worth)
     worth_low (Some h) b cost z None worth = cc
     worth_low g true cost z (Some q) worth = by (leads_to g q) worth
       where
         by : (b : Bool) → (if b then Some cost else None) ≡ Some z → z ≤ cost + sum_to i
-        by true worth' = omega (arith, same_some cost z worth')
+        by true worth' = omega (arith, same_Some cost z worth')
         by false worth' = cc
     worth_low g false cost z (Some q) worth = by (found_at best q) refl worth
       where
         by : (o : Option Found) → found_at best q ≡ o → option_map (λ f. cost + (slice_index extra q + f.value)) o ≡ Some z → z ≤ cost + sum_to i
         by None at worth' = cc
-        by (Some f) at worth' = omega (arith, same_some (cost + (slice_index extra q + f.value)) z worth', old.low q f at)
+        by (Some f) at worth' = omega (arith, same_Some (cost + (slice_index extra q + f.value)) z worth', old.low q f at)
 
     pub fill_more : p < length best → IsFilled s nest goal extra nodes (i + 1) (set best p found)
     fill_more known = record {
@@ -144,7 +141,7 @@ clear_more nodes i p best here known old = λ q f at. by q f at (cases_eq q p)
         (there.0, later there.0 there.1 there.2 (cases_eq there.0 i), there.2)
       where
         later : (j : ℕ) → i ≤ j → slice_get nodes j ≡ Some q → (j ≡ i) ⊎ (j ≡ i → ⊥) → i + 1 ≤ j
-        later j low at' (inl same) = absurd (apart (same_some q p (sym at' ∙ ap (slice_get nodes) same ∙ here)))
+        later j low at' (inl same) = absurd (apart (same_Some q p (sym at' ∙ ap (slice_get nodes) same ∙ here)))
         later j low at' (inr other) = omega arith
 
 pub clear_all : (nodes : List ℕ) (best : List (Option Found)) → StandIn nodes (length nodes) best → IsClear best

@@ -1,5 +1,6 @@
 -- One loop more of the last pass.
 use Rattle.std.proofs.Common.{◌≡◌, ℕ, zero, suc, ◌==◌, ◌+◌, ◌*◌, ◌-◌, ◌<◌, ◌≤◌, ◌^◌, ◌⊎◌, inl, inr, ℤ, pos, neg_ℤ, ◌+ℤ◌, ◌-ℤ◌, ◌*ℤ◌, ◌≤ℤ◌, List, [], ◌∷◌, length, slice_index, slice_get, get_or, Option, Some, None, option_map, Bool, true, false, refl, sym, ap, ap₂, subst, ◌∙◌, arith}
+use Rattle.std.proofs.lemmas.Option.{same_Some}
 use Rattle.std.proofs.lemmas.Bool.{cases_eq, cases_lt}
 use Rattle.std.proofs.lemmas.Int.{ints, clamps}
 use Rattle.std.specs.Int.{int_max}
@@ -24,9 +25,6 @@ use Rattle.wc_nestsolve.specs.Inner.Weights.{surcharge, weight}
 use Rattle.wc_nestsolve.proofs.ListedSums.{get_all}
 use Rattle.wc_nestsolve.proofs.PotentialLemmas.{head_same, potential_after}
 
-same_some : {X : Type 0} (x y : X) → Some x ≡ Some y → x ≡ y
-same_some x y is = cc
-
 -- The start has a way to the exit ahead: a node that comes to the exit has one, or else the head of a loop round it has.
 module _ (s : System) (nest : Nest) (is : IsNested s nest) (Inside : ℕ → Type 0) (extra : List ℕ) (best : List (Option Found)) (table : IsTable s nest None Inside extra best)
     (all : (i : ℕ) (t : SystemStep) → IsStep s nest i t → Inside t.source) where
@@ -48,7 +46,7 @@ module _ (s : System) (nest : Nest) (is : IsNested s nest) (Inside : ℕ → Typ
           (ap₂ (λ c o. reach None c t.cost o extra best) ahead to ∙ ap (λ o. option_map (λ g. t.cost + (slice_index extra r + g.value)) o) found))
       from_way true marked (f, found) =
           let own = is.owned i t at marked in
-          let head : r ≡ own.1.head = same_some r own.1.head (sym to ∙ own.3) in
+          let head : r ≡ own.1.head = same_Some r own.1.head (sym to ∙ own.3) in
           inr (own.0, own.1, own.2, is.marked i own.0 t own.1 at own.2 own.3 marked, (f, ap (found_at best) (sym head) ∙ found))
 
       by : (b : Bool) → is_marked nest i ≡ b → HasWay r ⊎ HasHead r → HasWay t.source ⊎ HasHead t.source

@@ -1,11 +1,13 @@
 pub mod AddLemmas
 pub mod AddingLemmas
+pub mod BackLemmas
 pub mod BeginLemmas
 pub mod BestLemmas
 pub mod CeilingLemmas
 pub mod ClassLemmas
 pub mod CountLemmas
 pub mod EndLemmas
+pub mod ExistingLemmas
 pub mod FillLemmas
 pub mod FinishLemmas
 pub mod FirstLemmas
@@ -26,6 +28,7 @@ pub mod SeenLemmas
 pub mod ShapeLemmas
 pub mod SmallLemmas
 pub mod SolvableLemmas
+pub mod SortingLemmas
 pub mod TableLemmas
 pub mod TrailLemmas
 pub mod WeightLemmas

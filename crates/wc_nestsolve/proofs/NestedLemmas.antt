@@ -3,43 +3,29 @@ use Rattle.std.proofs.Common.{ℕ, zero, suc, ◌≡◌, ◌+◌, ◌<◌, ◌�
 use Rattle.std.specs.List.{AllPairs, Contains, slice_get, slice_index_or}
 use Rattle.std.specs.Option.{option_and_then}
 use Rattle.std.proofs.lemmas.Bool.{cases_lt}
-use Rattle.std.proofs.lemmas.Bool.Decides.{Decides-eqb, eqb_tells}
 use Rattle.std.proofs.lemmas.List.Elements.{All-contains}
-use Rattle.std.proofs.lemmas.Option.{none-some, same_Some, slice_get_within, slice_get-get_or, get_or_from_slice_get}
+use Rattle.std.proofs.lemmas.Option.{none-some, same_Some, slice_get_within, slice_get-get_or}
 use Rattle.std.proofs.Math.ListN.{get_or-eq_default}
 use Rattle.wc_model.specs.declared.graphs.Graph.{Graph}
 use Rattle.wc_model.specs.declared.graphs.Head.{Head}
 use Rattle.wc_model.specs.declared.graphs.Nest.{Nest}
 use Rattle.wc_model.specs.declared.graphs.Step.{Step}
 use Rattle.wc_model.specs.Flow.Ceiling.{loops_out, loops_round, parent_of}
-use Rattle.wc_model.specs.Flow.Nest.{HeadAt, ClassAt, ComesBefore, IsHeadFor, IsParent, IsInside, IsBack, IsNest}
+use Rattle.wc_model.specs.Flow.Nest.{HeadAt, ClassAt, ComesBefore, IsHeadFor, IsParent, IsInside, IsNest}
 use Rattle.wc_model.specs.Flow.Places.{is_listed}
-use Rattle.wc_model.specs.Flow.Systems.{is_marked}
-use Rattle.wc_model.specs.Flow.Walks.{LeadsOn}
 use Rattle.wc_model.specs.Program.Graphs.{IsGraph}
-use Rattle.wc_model.specs.Program.Reaching.{Reaches, here, along}
-use Rattle.wc_model.proofs.Places.{contains_from_get, get_from_contains}
 use Rattle.wc_nest.specs.Inner.Nests.{StepAt}
 use Rattle.wc_nest.proofs.FlagLemmas.{true_or_false, not_both}
 use Rattle.wc_nest.proofs.ListLemmas.{pairs_at}
-use Rattle.wc_nest.proofs.NestLemmas.{class_down, class_below, zip_at}
+use Rattle.wc_nest.proofs.NestLemmas.{class_down, class_below}
 use Rattle.wc_nest.proofs.NestingLemmas.{known_target, known_class, apart}
-use Rattle.wc_nest.proofs.RelationLemmas.{reaches_map, reaches_on, together_then, together_self, together_step, led_reach, led_one, led_on, leads_map, head_leaves}
+use Rattle.wc_nest.proofs.RelationLemmas.{head_leaves, together_self, together_then}
 use Rattle.wc_nestsolve.specs.Inner.Nested.{lies}
-
--- a step of the graph that isn't a back step leads from `p` to `o`
-abbrev pub GoesAhead : Graph → Nest → ℕ → Option ℕ → Type 0
-GoesAhead graph nest p o = (i : ℕ) × (s : Step) × (slice_get graph.steps i ≡ Some s) × (is_marked nest i ≡ false) × (s.source ≡ p) × (s.target ≡ o)
+use Rattle.wc_nestsolve.proofs.WeightLemmas.{same_by, test_same}
 
 or_true : (a b : Bool) → (a || b) ≡ true → (a ≡ true) ⊎ (b ≡ true)
 or_true true b is = inl refl
 or_true false b is = inr is
-
-same_index : (i k : ℕ) → (i == k) ≡ true → i ≡ k
-same_index i k is = ⊎_elim (λ one. one.1) (λ other. absurd (not_both is other.0)) (eqb_tells i k)
-
-index_same : (i k : ℕ) → i ≡ k → (i == k) ≡ true
-index_same i k same = ⊎_elim (λ one. one.0) (λ other. absurd (other.1 same)) (eqb_tells i k)
 
 parent_at : (heads : List Head) (i : ℕ) (x : Head) → slice_get heads i ≡ Some x → parent_of heads i ≡ x.parent
 parent_at heads i x at = ap (option_and_then (λ h. h.parent)) at
@@ -133,7 +119,7 @@ module _ (graph : Graph) (is_graph : IsGraph graph) (nest : Nest) (of : IsNest g
   up_sound : (n l i k p : ℕ) → IsHeadFor graph nest.heads l i p → is_listed k (loops_out nest.heads n (Some i)) ≡ true → Lies k p
   up_sound zero l i k p is led = absurd (not_both led refl)
   up_sound (suc n) l i k p is led = ⊎_elim
-      (λ (same : (k == i) ≡ true). (l, subst (λ (j : ℕ). IsHeadFor graph nest.heads l j p) (sym (same_index k i same)) is))
+      (λ (same : (k == i) ≡ true). (l, subst (λ (j : ℕ). IsHeadFor graph nest.heads l j p) (sym (same_by k i same)) is))
       (λ (further : is_listed k (loops_out nest.heads n (parent_of nest.heads i)) ≡ true). by_level l is further (λ m j up rest. up_sound n m j k p up rest))
       (or_true (k == i) (is_listed k (loops_out nest.heads n (parent_of nest.heads i))) led)
     where
@@ -143,7 +129,7 @@ module _ (graph : Graph) (is_graph : IsGraph graph) (nest : Nest) (of : IsNest g
 
   here_up : (n l i m k p : ℕ) → IsHeadFor graph nest.heads l i p → m ≡ l → IsHeadFor graph nest.heads m k p → is_listed k (loops_out nest.heads (suc n) (Some i)) ≡ true
   here_up n l i m k p is same of_k = ap (λ b. b || is_listed k (loops_out nest.heads n (parent_of nest.heads i)))
-      (index_same k i (sym (one_head l i k p is (subst (λ (j : ℕ). IsHeadFor graph nest.heads j k p) same of_k))))
+      (test_same k i (sym (one_head l i k p is (subst (λ (j : ℕ). IsHeadFor graph nest.heads j k p) same of_k))))
 
   up_all : (n l i m k p : ℕ) → i < n → IsHeadFor graph nest.heads l i p → m ≤ l → IsHeadFor graph nest.heads m k p → is_listed k (loops_out nest.heads n (Some i)) ≡ true
   up_all zero l i m k p fuel is low of_k = absurd (omega arith)
@@ -161,7 +147,7 @@ module _ (graph : Graph) (is_graph : IsGraph graph) (nest : Nest) (of : IsNest g
       further false b is' = is'
 
   -- a node lies in a loop exactly where its class has it
-  lies_is : (k p : ℕ) → lies nest k p ≡ true → p < length graph.nodes → Lies k p
+  pub lies_is : (k p : ℕ) → lies nest k p ≡ true → p < length graph.nodes → Lies k p
   lies_is k p is known = by_inside (slice_index_or nest.inside p None) refl is
     where
       by_inside : (o : Option ℕ) → slice_index_or nest.inside p None ≡ o → is_listed k (loops_out nest.heads (length nest.heads) o) ≡ true → Lies k p
@@ -173,7 +159,7 @@ module _ (graph : Graph) (is_graph : IsGraph graph) (nest : Nest) (of : IsNest g
   class_self : (l p q : ℕ) → ClassAt graph l p q → ClassAt graph l q q
   class_self l p q both = let led = together_self (StepAt graph l) graph.start q p (both.1, both.0) in (led, led)
 
-  all_lies : (k p : ℕ) → Lies k p → lies nest k p ≡ true
+  pub all_lies : (k p : ℕ) → Lies k p → lies nest k p ≡ true
   all_lies k p (m, of_k) = by_inside (slice_index_or nest.inside p None) refl
     where
       known : p < length graph.nodes
@@ -196,14 +182,14 @@ module _ (graph : Graph) (is_graph : IsGraph graph) (nest : Nest) (of : IsNest g
           up_all (length nest.heads) inside.0 i m k p (slice_get_within nest.heads i inside.1.0 inside.1.1) inside.1 low of_k
 
   -- a head with its level
-  level_of : (k : ℕ) (x : Head) → slice_get nest.heads k ≡ Some x → (l : ℕ) × HeadAt graph l x.node
+  pub level_of : (k : ℕ) (x : Head) → slice_get nest.heads k ≡ Some x → (l : ℕ) × HeadAt graph l x.node
   level_of k x at = let placed = of.places k x at in (placed.0, placed.1)
 
   pub node_known : (k : ℕ) (x : Head) → slice_get nest.heads k ≡ Some x → x.node < length graph.nodes
   node_known k x at = let level = level_of k x at in known_class graph is_graph level.0 x.node x.node (level.1.0, level.1.0)
 
   -- the class of a listed head
-  lies_class : (k p l : ℕ) (x : Head) → slice_get nest.heads k ≡ Some x → HeadAt graph l x.node → Lies k p → ClassAt graph l x.node p
+  pub lies_class : (k p l : ℕ) (x : Head) → slice_get nest.heads k ≡ Some x → HeadAt graph l x.node → Lies k p → ClassAt graph l x.node p
   lies_class k p l x at head (m, (y, at_y, head_y, class_y)) =
       let same : y ≡ x = same_Some y x (sym at_y ∙ at) in
       let level : m ≡ l = one_level m l x.node (subst (λ (h : Head). HeadAt graph m h.node) same head_y) head in
@@ -220,7 +206,7 @@ module _ (graph : Graph) (is_graph : IsGraph graph) (nest : Nest) (of : IsNest g
       of.single level.0 graph.start x.node head level.1 (class.1, class.0)
 
   -- the smallest loop of a node in a loop
-  innermost : (l p : ℕ) → ClassAt graph l p p → (n : ℕ) × (i : ℕ) × IsHeadFor graph nest.heads n i p × (l ≤ n) × (ClassAt graph (suc n) p p → ⊥)
+  pub innermost : (l p : ℕ) → ClassAt graph l p p → (n : ℕ) × (i : ℕ) × IsHeadFor graph nest.heads n i p × (l ≤ n) × (ClassAt graph (suc n) p p → ⊥)
   innermost l p looped = by_inside (slice_index_or nest.inside p None) refl
     where
       inside_at : (o : Option ℕ) → slice_index_or nest.inside p None ≡ o → IsInside graph nest.heads p o
@@ -300,65 +286,3 @@ module _ (graph : Graph) (is_graph : IsGraph graph) (nest : Nest) (of : IsNest g
       all_lies k p (level_x.0, (x, at_x, level_x.1, together_then (StepAt graph level_x.0) graph.start x.node y.node p class_y (class_below graph level_y.0 level_x.0 y.node p low class_p))))
       (λ (unknown : length graph.nodes ≤ p). absurd (not_both is_p (lies_none m p unknown)))
       (cases_lt p (length graph.nodes))
-
-  -- back steps
-  flag_for : (i : ℕ) (s : Step) → slice_get graph.steps i ≡ Some s → (b : Bool) × (is_marked nest i ≡ b) × ((b ≡ true) → IsBack graph s) × (IsBack graph s → b ≡ true)
-  flag_for i s at =
-      let z = zip_at (λ (t : Step) (b : Bool). ((b ≡ true) → IsBack graph t) × (IsBack graph t → b ≡ true)) graph.steps nest.back of.backs i s at in
-      (z.0, get_or_from_slice_get nest.back i z.0 false z.1, z.2.0, z.2.1)
-
-  -- a back step leads to the head of a loop that its source lies in
-  pub lies_back : (i : ℕ) (s : Step) → slice_get graph.steps i ≡ Some s → is_marked nest i ≡ true → (k : ℕ) × (x : Head) × (slice_get nest.heads k ≡ Some x) × (s.target ≡ Some x.node) × (lies nest k s.source ≡ true)
-  lies_back i s at is =
-      let flag = flag_for i s at in
-      let back = flag.2 (sym flag.1 ∙ is) in
-      let head = of.all back.0 back.1 back.3.0 in
-      let here_head : HeadAt graph back.0 head.1.node = subst (λ (h : ℕ). HeadAt graph back.0 h) (sym head.3) back.3.0 in
-      (head.0, head.1, head.2, back.2 ∙ ap Some (sym head.3), all_lies head.0 s.source (back.0, (head.1, head.2, here_head, subst (λ (h : ℕ). ClassAt graph back.0 h s.source) (sym head.3) (back.3.1.1, back.3.1.0))))
-
-  -- and such a step is a back step
-  pub back_lies : (i k : ℕ) (s : Step) (x : Head) → slice_get graph.steps i ≡ Some s → slice_get nest.heads k ≡ Some x → s.target ≡ Some x.node → lies nest k s.source ≡ true → is_marked nest i ≡ true
-  back_lies i k s x at at_x to is =
-      let flag = flag_for i s at in
-      let level = level_of k x at_x in
-      let among : Contains graph.steps s = contains_from_get graph.steps i s at in
-      let class = lies_class k s.source level.0 x at_x level.1 (lies_is k s.source is (All-contains (λ (t : Step). t.source < length graph.nodes) graph.steps s is_graph.sources among)) in
-      flag.1 ∙ flag.3 (level.0, x.node, to, (level.1, (class.1, class.0)))
-
-  -- no cycle of steps ahead
-  module _ (p : ℕ) where
-    -- the steps ahead on a way from `p` back to it
-    abbrev OnCycle : ℕ → Option ℕ → Type 0
-    OnCycle q None = ⊥
-    OnCycle q (Some r) = GoesAhead graph nest q (Some r) × Reaches (GoesAhead graph nest) p q × Reaches (GoesAhead graph nest) r p
-
-    on_cycle : (a : ℕ) {b : ℕ} → Reaches (GoesAhead graph nest) p a → Reaches (GoesAhead graph nest) a b → Reaches (GoesAhead graph nest) b p → Reaches OnCycle a b
-    on_cycle a to_a here to_p = here
-    on_cycle a to_a (along {q = m} b way step) to_p = along b (on_cycle a to_a way (reaches_on (GoesAhead graph nest) m (led_reach (GoesAhead graph nest) m b (led_one (GoesAhead graph nest) m b step)) to_p)) (step, reaches_on (GoesAhead graph nest) p to_a way, to_p)
-
-    -- they are steps of each level
-    cycle_at : (l q r : ℕ) → OnCycle q (Some r) → StepAt graph l q (Some r)
-    cycle_at zero q r ((i, s, at, flag, from, to), to_q, to_p) = (s, contains_from_get graph.steps i s at, from, to)
-    cycle_at (suc l) q r step =
-        let before : StepAt graph l q (Some r) = cycle_at l q r step in
-        let to_q : Reaches (GoesAhead graph nest) r q = reaches_on (GoesAhead graph nest) r step.2 step.1 in
-        let back : Reaches OnCycle r q = on_cycle r (along r step.1 step.0) to_q (led_reach (GoesAhead graph nest) q p (on_led_step q r step.0 step.2)) in
-        let both : ClassAt graph l q r = together_step (StepAt graph l) graph.start q r before (reaches_map OnCycle (StepAt graph l) (cycle_at l) r back) in
-        (before, both, λ head. no_back step.0 head both)
-      where
-        on_led_step : (q r : ℕ) → GoesAhead graph nest q (Some r) → Reaches (GoesAhead graph nest) r p → LeadsOn (GoesAhead graph nest) q p
-        on_led_step q r step way = led_on (GoesAhead graph nest) q r (led_one (GoesAhead graph nest) q r step) way
-
-        no_back : GoesAhead graph nest q (Some r) → HeadAt graph l r → ClassAt graph l q r → ⊥
-        no_back (i, s, at, flag, from, to) head both =
-            let known = flag_for i s at in
-            let is : known.0 ≡ true = known.3 (l, r, to, (head, subst (λ (x : ℕ). ClassAt graph l x r) (sym from) both)) in
-            not_both is (sym known.1 ∙ flag)
-
-    pub none_ahead : LeadsOn (GoesAhead graph nest) p p → ⊥
-    none_ahead (m, way, step) =
-        let cycle : LeadsOn OnCycle p p = (m, on_cycle p here way (led_reach (GoesAhead graph nest) m p (led_one (GoesAhead graph nest) m p step)), (step, way, here)) in
-        ended (λ l. let led = leads_map OnCycle (StepAt graph l) (cycle_at l) p p cycle in (led, led))
-      where
-        ended : ((l : ℕ) → ClassAt graph l p p) → ⊥
-        ended looped = let loop = innermost 0 p (looped 0) in loop.4 (looped (suc loop.0))

@@ -1,7 +1,7 @@
 -- The steps ahead have no cycle, and lead from the start to all nodes.
 use Rattle.std.proofs.Common.{◌≡◌, ℕ, zero, suc, ◌+◌, ◌<◌, ◌≤◌, ◌++◌, ◌⊎◌, inl, inr, List, [], ◌∷◌, drop, length, slice_get, slice_index_or, get_or, Option, Some, None, option_map, Bool, true, false, refl, sym, ap, ap₂, subst, ◌∙◌, arith}
 use Rattle.std.proofs.lemmas.List.{append-nil}
-use Rattle.std.proofs.lemmas.Option.{get_or_from_slice_get, slice_get-get_or, slice_get_within}
+use Rattle.std.proofs.lemmas.Option.{get_or_from_slice_get, same_Some, slice_get-get_or, slice_get_within}
 use Rattle.std.specs.List.{AllPairs, Contains}
 use Rattle.std.specs.Prelude.{All, IfSome}
 use Rattle.wc_model.specs.declared.flow_system.System.{System}
@@ -18,9 +18,6 @@ use Rattle.wc_nestsolve.specs.Inner.Orders.{IsDownOrder, loose, loosened}
 use Rattle.wc_nestsolve.specs.Inner.Tables.{IsDownward}
 use Rattle.wc_nestsolve.specs.Inner.Solvable.{IsSolvable, LeadsAhead}
 use Rattle.wc_nestsolve.proofs.ListedSums.{get_all}
-
-same_some : {X : Type 0} (x y : X) → Some x ≡ Some y → x ≡ y
-same_some x y is = cc
 
 pub loosened_get : (marks : List Bool) (steps : List SystemStep) (i : ℕ) → slice_get (loosened marks steps) i ≡ option_map (loose (slice_index_or marks i false)) (slice_get steps i)
 loosened_get marks [] i = refl
@@ -41,8 +38,8 @@ drop_nil (suc i) = refl
 dropped : (marks : List Bool) (steps : List SystemStep) (i : ℕ) (t : SystemStep) → slice_get steps i ≡ Some t
     → loosened (drop i marks) (drop i steps) ≡ loose (slice_index_or marks i false) t ∷ loosened (drop (suc i) marks) (drop (suc i) steps)
 dropped marks [] i t at = cc
-dropped [] (x ∷ steps) zero t at = ap (λ y. y ∷ loosened [] steps) (same_some x t at)
-dropped (m ∷ marks) (x ∷ steps) zero t at = ap (λ y. loose m y ∷ loosened marks steps) (same_some x t at)
+dropped [] (x ∷ steps) zero t at = ap (λ y. y ∷ loosened [] steps) (same_Some x t at)
+dropped (m ∷ marks) (x ∷ steps) zero t at = ap (λ y. loose m y ∷ loosened marks steps) (same_Some x t at)
 dropped [] (x ∷ steps) (suc i) t at =
     sym (ap (λ ms. loosened ms (drop i steps)) (drop_nil i)) ∙ dropped [] steps i t at ∙ ap (λ ms. t ∷ loosened ms (drop (suc i) steps)) (drop_nil (suc i))
 dropped (m ∷ marks) (x ∷ steps) (suc i) t at = dropped marks steps i t at
@@ -93,7 +90,7 @@ module _ (nest : Nest) (s : System) (is : IsSolvable nest s) where
     where
       by : (o : Option SystemStep) → slice_get s.steps i ≡ o → (t : SystemStep) × IsStep s nest i t × (r ≡ loose (is_marked nest i) t)
       by None there = let none : slice_get steps i ≡ None = loosened_get nest.back s.steps i ∙ ap (option_map (loose (is_marked nest i))) there in cc
-      by (Some t) there = (t, there, same_some r (loose (is_marked nest i) t) (sym at ∙ loosened_get nest.back s.steps i ∙ ap (option_map (loose (is_marked nest i))) there))
+      by (Some t) there = (t, there, same_Some r (loose (is_marked nest i) t) (sym at ∙ loosened_get nest.back s.steps i ∙ ap (option_map (loose (is_marked nest i))) there))
 
   ahead_of_list : (p q : ℕ) → Joins system_ends steps p (Some q) → LeadsAhead s nest p (Some q)
   ahead_of_list p q (r, among, from, to) =
@@ -169,7 +166,7 @@ module _ (nest : Nest) (s : System) (is : IsSolvable nest s) where
       by i at true marked before =
           let own = is.nested.owned i t at marked in
           let inside = is.nested.marked i own.0 t own.1 at own.2 own.3 marked in
-          let head : own.1.head ≡ r = same_some own.1.head r (sym own.3 ∙ to) in
+          let head : own.1.head ≡ r = same_Some own.1.head r (sym own.3 ∙ to) in
           subst (λ p. Reaches (Joins system_ends steps) s.start p) head
           (head_reached own.0 own.1 own.2 m before (subst (λ p. lies nest own.0 p ≡ true) from inside))
 

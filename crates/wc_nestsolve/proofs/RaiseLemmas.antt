@@ -1,14 +1,12 @@
 -- One more node of a class is raised.
 use Rattle.std.proofs.Common.{◌≡◌, ℕ, zero, suc, ◌+◌, ◌<◌, ◌≤◌, ◌⊎◌, inl, inr, ℤ, List, length, set, slice_get, get_or, Option, Some, None, refl, sym, ap, subst, ◌∙◌, arith}
+use Rattle.std.proofs.lemmas.Option.{same_Some}
 use Rattle.std.proofs.lemmas.Bool.{cases_eq, cases_lt}
 use Rattle.std.proofs.lemmas.List.{get_or-set_same, get_or-set_other, length-set}
 use Rattle.wc_nestsolve.specs.declared.found.Found.{Found}
 use Rattle.wc_nestsolve.specs.Inner.Potentials.{raised_by}
 use Rattle.wc_nestsolve.specs.Inner.Raising.{AreRaisable, IsRaised, potential_at}
 use Rattle.wc_nestsolve.specs.Inner.Tables.{found_at}
-
-same_some : {X : Type 0} (x y : X) → Some x ≡ Some y → x ≡ y
-same_some x y is = cc
 
 pub none_from : {X : Type 0} (o : Option X) → ((x : X) → o ≡ Some x → ⊥) → o ≡ None
 none_from None none = refl
@@ -42,4 +40,4 @@ module _ (class : List ℕ) (best : List (Option Found)) (from : ℤ) (old now n
         where
           by : (j < i) ⊎ (i ≤ j) → potential_at next q ≡ raised_by (potential_at old q) (found_at best q) from
           by (inl low) = other q apart ∙ is.inside j q low at
-          by (inr high) = let even : j ≡ i = omega arith in absurd (apart (same_some q p (sym at ∙ ap (slice_get class) even ∙ here)))
+          by (inr high) = let even : j ≡ i = omega arith in absurd (apart (same_Some q p (sym at ∙ ap (slice_get class) even ∙ here)))

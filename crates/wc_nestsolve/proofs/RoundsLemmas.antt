@@ -4,7 +4,7 @@ use Rattle.std.proofs.Math.IntN.{*ℤ-zero, pos-*ℤ-pos}
 use Rattle.std.proofs.lemmas.Bool.{cases_eq, cases_lt}
 use Rattle.std.proofs.lemmas.Int.{ints}
 use Rattle.std.proofs.lemmas.List.{get_or-set_same, get_or-set_other, length-set, take_all}
-use Rattle.std.proofs.lemmas.Option.{get_or_from_slice_get, slice_get-get_or, slice_get-map, slice_get_within}
+use Rattle.std.proofs.lemmas.Option.{get_or_from_slice_get, same_Some, slice_get-get_or, slice_get-map, slice_get_within}
 use Rattle.std.specs.List.{filter, sum_by}
 use Rattle.wc_base.specs.Sums.{sum_placed, chosen}
 use Rattle.wc_base.proofs.SumLemmas.{sum_add, sum_pick, sum_same, sum_zero}
@@ -27,9 +27,6 @@ use Rattle.wc_nestsolve.proofs.ListedSums.{get_all}
 use Rattle.wc_nestsolve.proofs.RoomLemmas.{room_more, sum_total}
 use Rattle.wc_nestsolve.proofs.TableLemmas.{table_moved}
 use Rattle.wc_nestsolve.proofs.WeightLemmas.{same_by, test_apart, test_same}
-
-same_some : {X : Type 0} (x y : X) → Some x ≡ Some y → x ≡ y
-same_some x y is = cc
 
 module _ (nest : Nest) (s : System) (is : IsSolvable nest s) (order : List ℕ) (of : IsDownOrder s nest order) (classes : List (List ℕ)) (are : AreClasses nest order classes)
     (k : ℕ) (l : SystemLoop) (here : IsLoop s nest k l) where
@@ -90,7 +87,7 @@ module _ (nest : Nest) (s : System) (is : IsSolvable nest s) (order : List ℕ) 
       where
         bound_at : (ls : List SystemLoop) (k : ℕ) → slice_get ls k ≡ Some l → slice_get (map (λ o. o.bound) ls) k ≡ Some l.bound
         bound_at [] k at = cc
-        bound_at (x ∷ ls) zero at = ap (λ o. Some o.bound) (same_some x l at)
+        bound_at (x ∷ ls) zero at = ap (λ o. Some o.bound) (same_Some x l at)
         bound_at (x ∷ ls) (suc k) at = bound_at ls k at
 
     pub round_low : value_of_found (found_at best l.head) ≤ total (charge s nest extra) (filter (lies nest k) order)
@@ -194,7 +191,7 @@ module _ (nest : Nest) (s : System) (is : IsSolvable nest s) (order : List ℕ) 
       where
         by : (m ≡ k) ⊎ (m ≡ k → ⊥) → HasRound s nest classes extra_next v_next m o
         by (inl same) =
-            let is_l : l ≡ o = same_some l o (sym here ∙ ap (slice_get s.loops) (sym same) ∙ there) in
+            let is_l : l ≡ o = same_Some l o (sym here ∙ ap (slice_get s.loops) (sym same) ∙ there) in
             let table : IsTable s nest (Some o.head) (IsAmong s nest (class_of classes m) (length (class_of classes m))) extra best =
             subst (λ x. IsTable s nest (Some x.head) (IsAmong s nest (class_of classes m) (length (class_of classes m))) extra best) is_l
             (subst (λ n. IsTable s nest (Some l.head) (IsAmong s nest (class_of classes n) (length (class_of classes n))) extra best) (sym same) filled.table) in
@@ -220,7 +217,7 @@ module _ (nest : Nest) (s : System) (is : IsSolvable nest s) (order : List ℕ) 
       where
         part_of : (f : ℕ → ℕ) (xs : List ℕ) (i p : ℕ) → slice_get xs i ≡ Some p → f p ≤ total f xs
         part_of f [] i p at = cc
-        part_of f (x ∷ xs) zero p at = omega (arith, ap f (same_some x p at))
+        part_of f (x ∷ xs) zero p at = omega (arith, ap f (same_Some x p at))
         part_of f (x ∷ xs) (suc i) p at = omega (arith, part_of f xs i p at)
 
     pub round_next : (last : List (Option Found)) → length last ≡ length best → IsClear last → IsRoundsPass s nest order classes k extra_next v_next last

@@ -1,5 +1,6 @@
 -- How often a way leaves a node, and how often the counts so far do.
 use Rattle.std.proofs.Common.{◌≡◌, ℕ, zero, suc, ◌==◌, ◌&&◌, ◌||◌, ◌+◌, ◌*◌, ◌<◌, ◌≤◌, ◌⊎◌, inl, inr, ℤ, pos, ◌+ℤ◌, ◌-ℤ◌, ◌*ℤ◌, ◌≤ℤ◌, List, [], ◌∷◌, length, slice_get, slice_index, Option, Some, None, Bool, true, false, not, if◌then◌else◌, refl, sym, ap, ap₂, subst, ◌∙◌, arith}
+use Rattle.std.proofs.lemmas.Option.{same_Some}
 use Rattle.std.proofs.Math.IntN.{*ℤ-zero, pos-*ℤ-pos}
 use Rattle.std.proofs.lemmas.Bool.{cases_eq, cases_lt}
 use Rattle.std.proofs.lemmas.Int.{ints}
@@ -21,9 +22,6 @@ use Rattle.wc_nestsolve.specs.Inner.Trails.{IsTrail, ends, goes, given_at, tally
 use Rattle.wc_nestsolve.proofs.ListedSums.{get_all, sum_listed}
 use Rattle.wc_nestsolve.proofs.TrailLemmas.{trail_inside}
 use Rattle.wc_nestsolve.proofs.WeightLemmas.{same_by, test_apart, test_same}
-
-same_some : {X : Type 0} (x y : X) → Some x ≡ Some y → x ≡ y
-same_some x y is = cc
 
 module _ (s : System) (nest : Nest) (goal : Option ℕ) (Inside : ℕ → Type 0) (extra nodes : List ℕ) (down : IsDownward s nest nodes) (stands : (p : ℕ) → Inside p → (j : ℕ) × (slice_get nodes j ≡ Some p)) where
   -- a way doesn't come to a node that stands later
@@ -87,7 +85,7 @@ module _ (s : System) (nest : Nest) (goal : Option ℕ) (Inside : ℕ → Type 0
     where
       apart : n ≡ m → ⊥
       apart same =
-          let one : t ≡ r = same_some t r (sym at_n ∙ ap (slice_get s.steps) same ∙ at) in
+          let one : t ≡ r = same_Some t r (sym at_n ∙ ap (slice_get s.steps) same ∙ at) in
           absurd (let even = down.once i j p (at_t ∙ ap (λ x. Some x.source) one) at_p in omega arith)
   unlisted n i j p z t walk at_n at_t at_p less (goes m q y r rest at inside ahead to more) =
       let place = stands q (trail_inside s nest goal Inside extra q y rest more) in
@@ -96,7 +94,7 @@ module _ (s : System) (nest : Nest) (goal : Option ℕ) (Inside : ℕ → Type 0
     where
       apart : n ≡ m → ⊥
       apart same =
-          let one : t ≡ r = same_some t r (sym at_n ∙ ap (slice_get s.steps) same ∙ at) in
+          let one : t ≡ r = same_Some t r (sym at_n ∙ ap (slice_get s.steps) same ∙ at) in
           absurd (let even = down.once i j p (at_t ∙ ap (λ x. Some x.source) one) at_p in omega arith)
 
   pub trail_once : (p z : ℕ) (walk : List ℕ) → IsTrail s nest goal Inside extra p walk z → IsOnce walk

@@ -26,7 +26,8 @@ use Rattle.wc_system.proofs.SoundLemmas.{steps_counted}
 use Rattle.wc_nestsolve.specs.Given.{IsSystemIn}
 use Rattle.wc_nestsolve.specs.Inner.Nested.{IsLoop, IsNested, IsStep, lies}
 use Rattle.wc_nestsolve.specs.Inner.Solvable.{IsSolvable, LeadsAhead}
-use Rattle.wc_nestsolve.proofs.NestedLemmas.{GoesAhead, back_lies, lies_back, lies_entered, lies_inside, lies_larger, lies_outer, lies_started, none_ahead, one_place}
+use Rattle.wc_nestsolve.proofs.BackLemmas.{GoesAhead, back_lies, lies_back, none_ahead}
+use Rattle.wc_nestsolve.proofs.NestedLemmas.{lies_entered, lies_inside, lies_larger, lies_outer, lies_started, one_place}
 use Rattle.wc_nestsolve.proofs.ShapeLemmas.{nest_shape}
 use Rattle.wc_nestsolve.proofs.WeightLemmas.{test_apart, test_same}
 

@@ -1,5 +1,6 @@
 -- Tables of the best ways: one more node, equal tables, changed surcharges.
 use Rattle.std.proofs.Common.{◌≡◌, ℕ, zero, suc, ◌==◌, ◌+◌, ◌<◌, ◌≤◌, ◌⊎◌, inl, inr, slice_get, slice_index, get_or, set, length, Option, Some, None, option_map, Bool, true, false, if◌then◌else◌, List, refl, sym, ap, ap₂, subst, ◌∙◌, arith}
+use Rattle.std.proofs.lemmas.Option.{same_Some}
 use Rattle.std.proofs.lemmas.Bool.{cases_lt, cases_eq}
 use Rattle.std.proofs.lemmas.List.{get_or-set_same, get_or-set_other}
 use Rattle.wc_model.specs.declared.flow_system.System.{System}
@@ -17,9 +18,6 @@ pub reach_same : (goal : Option ℕ) (back : Bool) (cost : ℕ) (o : Option ℕ)
 reach_same goal back cost None extra more best other same = refl
 reach_same goal true cost (Some q) extra more best other same = refl
 reach_same goal false cost (Some q) extra more best other same = same q refl refl
-
-same_some : {X : Type 0} (x y : X) → Some x ≡ Some y → x ≡ y
-same_some x y is = cc
 
 module _ (s : System) (nest : Nest) (goal : Option ℕ) (extra : List ℕ) (nodes : List ℕ) (down : IsDownward s nest nodes) where
   -- one more node of the list
@@ -45,7 +43,7 @@ module _ (s : System) (nest : Nest) (goal : Option ℕ) (extra : List ℕ) (node
         by (inl low) = (j, low, at)
         by (inr high) =
             let same : j ≡ i = omega arith in
-            absurd (apart (same_some q p (sym at ∙ ap (slice_get nodes) same ∙ here)))
+            absurd (apart (same_Some q p (sym at ∙ ap (slice_get nodes) same ∙ here)))
 
     later : (q : ℕ) → IsAmong s nest nodes i q → IsAmong s nest nodes (i + 1) q
     later q (j, less, at) = (j, omega arith, at)
@@ -94,7 +92,7 @@ module _ (s : System) (nest : Nest) (goal : Option ℕ) (extra : List ℕ) (node
             let g = lower q f to is at in (
               t.cost + (slice_index extra q + g.0.value),
               ap (option_map (λ h. t.cost + (slice_index extra q + h.value))) g.1,
-              omega (arith, same_some (t.cost + (slice_index extra q + f.value)) z gives, g.2),
+              omega (arith, same_Some (t.cost + (slice_index extra q + f.value)) z gives, g.2),
             )
 
     low : (n j p : ℕ) (f : Found) → j < n → slice_get nodes j ≡ Some p → found_at best p ≡ Some f → (g : Found) × (found_at other p ≡ Some g) × (f.value ≤ g.value)
@@ -129,8 +127,8 @@ module _ (s : System) (nest : Nest) (goal : Option ℕ) (extra : List ℕ) (node
       by (Some f) (Some g) at_a at_b =
           let up = table_low Inside stands best other one two p f at_a in
           let back = table_low Inside stands other best two one p g at_b in
-          let same_g : g ≡ up.0 = same_some g up.0 (sym at_b ∙ up.1) in
-          let same_f : f ≡ back.0 = same_some f back.0 (sym at_a ∙ back.1) in
+          let same_g : g ≡ up.0 = same_Some g up.0 (sym at_b ∙ up.1) in
+          let same_f : f ≡ back.0 = same_Some f back.0 (sym at_a ∙ back.1) in
           omega (arith, up.2, back.2, ap (λ h. h.value) same_g, ap (λ h. h.value) same_f)
 
 -- the surcharge of one node changes, to which no step ahead leads inside

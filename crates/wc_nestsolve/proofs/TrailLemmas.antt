@@ -1,5 +1,6 @@
 -- What a way to a goal adds to the counts.
 use Rattle.std.proofs.Common.{◌≡◌, ℕ, zero, suc, ◌==◌, ◌&&◌, ◌+◌, ◌<◌, ◌≤◌, ◌⊎◌, inl, inr, ℤ, pos, ◌+ℤ◌, ◌-ℤ◌, ◌*ℤ◌, ◌≤ℤ◌, List, [], ◌∷◌, length, slice_get, slice_index, Option, Some, None, option_map, Bool, true, false, not, if◌then◌else◌, refl, sym, ap, ap₂, subst, ◌∙◌, arith}
+use Rattle.std.proofs.lemmas.Option.{same_Some}
 use Rattle.std.proofs.Math.IntN.{*ℤ-zero, zero-*ℤ}
 use Rattle.std.proofs.lemmas.Bool.{cases_lt, cases_eq}
 use Rattle.std.proofs.lemmas.Int.{ints}
@@ -23,9 +24,6 @@ use Rattle.wc_nestsolve.specs.Inner.Trails.{IsTrail, ends, goes, given_at, tally
 use Rattle.wc_nestsolve.specs.Inner.Weights.{surcharge, weight}
 use Rattle.wc_nestsolve.proofs.ListedSums.{chosen_linear, get_all, sum_listed, times_chosen}
 use Rattle.wc_nestsolve.proofs.WeightLemmas.{same_by, test_apart, test_same, weight_ahead, weight_back, weight_exit}
-
-same_some : {X : Type 0} (x y : X) → Some x ≡ Some y → x ≡ y
-same_some x y is = cc
 
 module _ (s : System) (nest : Nest) (goal : Option ℕ) (Inside : ℕ → Type 0) (extra : List ℕ) where
   -- a linear function of its counts is the sum over the walk
@@ -221,7 +219,7 @@ module _ (s : System) (nest : Nest) (is : IsNested s nest) (sound : IsSystem s) 
   }
     where
       same_head : (o : SystemLoop) → IsLoop s nest k o → l.head ≡ o.head
-      same_head o there = ap (λ x. x.head) (same_some l o (sym here ∙ there))
+      same_head o there = ap (λ x. x.head) (same_Some l o (sym here ∙ there))
 
       nothing : pos z -ℤ v k ≡ pos 0
       nothing = omega (arith, ints, worth)
@@ -263,7 +261,7 @@ module _ (s : System) (nest : Nest) (goal : Option ℕ) (Inside : ℕ → Type 0
 
           exit : (g : Option ℕ) → goal ≡ g → reach g b way.step.cost None extra best ≡ Some f.value
               → IsTrail s nest goal Inside extra way.step.source (f.place ∷ walk_from s nest best n (goes_to (is_marked nest f.place) (slice_get s.steps f.place))) f.value
-          exit None is_g gives = last b None (stops b) is (to ∙ sym is_g) (subst (λ x. IfSome x (λ _. is_marked nest f.place ≡ true)) (sym is_g) tt) (same_some way.step.cost f.value gives)
+          exit None is_g gives = last b None (stops b) is (to ∙ sym is_g) (subst (λ x. IfSome x (λ _. is_marked nest f.place ≡ true)) (sym is_g) tt) (same_Some way.step.cost f.value gives)
           exit (Some h) is_g gives = cc
       by walk_more (Some q) true to is worth = back goal refl worth
         where
@@ -275,7 +273,7 @@ module _ (s : System) (nest : Nest) (goal : Option ℕ) (Inside : ℕ → Type 0
               at_head : (b : Bool) → (h == q) ≡ b → (if b then Some way.step.cost else None) ≡ Some f.value
                   → IsTrail s nest goal Inside extra way.step.source (f.place ∷ walk_from s nest best n (goes_to (is_marked nest f.place) (slice_get s.steps f.place))) f.value
               at_head true same gives' =
-                  last true (Some q) refl is (to ∙ ap Some (sym (same_by h q same)) ∙ sym is_g) (subst (λ x. IfSome x (λ _. is_marked nest f.place ≡ true)) (sym is_g) is) (same_some way.step.cost f.value gives')
+                  last true (Some q) refl is (to ∙ ap Some (sym (same_by h q same)) ∙ sym is_g) (subst (λ x. IfSome x (λ _. is_marked nest f.place ≡ true)) (sym is_g) is) (same_Some way.step.cost f.value gives')
               at_head false apart gives' = cc
       by walk_more (Some q) false to is worth = on (found_at best q) refl worth
         where
@@ -287,5 +285,5 @@ module _ (s : System) (nest : Nest) (goal : Option ℕ) (Inside : ℕ → Type 0
               let lower = down.lower f.place j place.0 q way.step way.at is to (at ∙ ap Some (sym way.source)) place.1 in
               let more = walk_more place.0 q g (omega arith) place.1 there in
               subst (λ w. IsTrail s nest goal Inside extra way.step.source (f.place ∷ w) f.value) (sym (ap (walk_from s nest best n) (ap₂ goes_to is way.at ∙ to)))
-              (subst (λ z. IsTrail s nest goal Inside extra way.step.source (f.place ∷ walk_from s nest best n (Some q)) z) (same_some (way.step.cost + (slice_index extra q + g.value)) f.value gives)
+              (subst (λ z. IsTrail s nest goal Inside extra way.step.source (f.place ∷ walk_from s nest best n (Some q)) z) (same_Some (way.step.cost + (slice_index extra q + g.value)) f.value gives)
               (goes f.place q g.value way.step (walk_from s nest best n (Some q)) way.at inside is to more))

@@ -5,6 +5,7 @@ mod classes;
 mod counts;
 mod found;
 mod last;
+mod laws;
 mod order;
 mod potentials;
 mod rounds;
@@ -13,6 +14,7 @@ mod turns;
 mod ways;
 mod whole;
 
+pub use laws::loops_are_priced;
 pub use whole::solve;
 
 #[cfg(test)]

@@ -22,43 +22,91 @@ const CONTEXTS: [Context; 1] = [Context {
     callee: 0x8000,
 }];
 
-const fn node(pc: u32) -> Node {
+const NODES: [Node; 6] = [
     Node {
         context: 0,
-        pc,
+        pc: 0x8000,
         insn: INSN,
-    }
-}
-
-const fn step(source: u32, target: Option<u32>) -> Step {
-    Step {
-        source,
-        target,
-        taken: false,
-    }
-}
-
-const NODES: [Node; 6] = [
-    node(0x8000),
-    node(0x8004),
-    node(0x8008),
-    node(0x800C),
-    node(0x8010),
-    node(0x8014),
+    },
+    Node {
+        context: 0,
+        pc: 0x8004,
+        insn: INSN,
+    },
+    Node {
+        context: 0,
+        pc: 0x8008,
+        insn: INSN,
+    },
+    Node {
+        context: 0,
+        pc: 0x800C,
+        insn: INSN,
+    },
+    Node {
+        context: 0,
+        pc: 0x8010,
+        insn: INSN,
+    },
+    Node {
+        context: 0,
+        pc: 0x8014,
+        insn: INSN,
+    },
 ];
 
 // A loop round the start, with a loop of one node on one of its two branches; then a loop of two nodes.
 const STEPS: [Step; 10] = [
-    step(0, Some(1)),
-    step(1, Some(2)),
-    step(1, Some(3)),
-    step(2, Some(2)),
-    step(2, Some(3)),
-    step(3, Some(0)),
-    step(3, Some(4)),
-    step(4, Some(5)),
-    step(5, Some(4)),
-    step(5, None),
+    Step {
+        source: 0,
+        target: Some(1),
+        taken: false,
+    },
+    Step {
+        source: 1,
+        target: Some(2),
+        taken: false,
+    },
+    Step {
+        source: 1,
+        target: Some(3),
+        taken: false,
+    },
+    Step {
+        source: 2,
+        target: Some(2),
+        taken: false,
+    },
+    Step {
+        source: 2,
+        target: Some(3),
+        taken: false,
+    },
+    Step {
+        source: 3,
+        target: Some(0),
+        taken: false,
+    },
+    Step {
+        source: 3,
+        target: Some(4),
+        taken: false,
+    },
+    Step {
+        source: 4,
+        target: Some(5),
+        taken: false,
+    },
+    Step {
+        source: 5,
+        target: Some(4),
+        taken: false,
+    },
+    Step {
+        source: 5,
+        target: None,
+        taken: false,
+    },
 ];
 
 fn three_loops(alloc: Global) -> Result<Graph, AllocError>
