@@ -24,7 +24,7 @@ zero_at zero i = refl
 zero_at (suc n) zero = refl
 zero_at (suc n) (suc i) = zero_at n i
 
-none_at : (n p : ℕ) → found_at (replicate n None) p ≡ None
+pub none_at : (n p : ℕ) → found_at (replicate n None) p ≡ None
 none_at zero p = refl
 none_at (suc n) zero = refl
 none_at (suc n) (suc p) = none_at n p

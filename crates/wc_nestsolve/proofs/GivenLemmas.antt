@@ -16,23 +16,23 @@ use Rattle.wc_model.specs.Workspace.Hardware.{default_hardware}
 use Rattle.wc_model.specs.Workspace.Phases.{SystemOf, fine}
 use Rattle.wc_nestsolve.specs.Given.{IsSystemIn}
 
--- inputs with these facts
-pub with_facts : List (ℕ × Fact) → Setting
+-- inputs with these facts and no program
+no_image : Image
+no_image = record {
+  bytes = [];
+  ranges = [];
+  names = [];
+  ranges_inside = λ k d within. absurd (omega arith);
+  ranges_end = λ k d within. absurd (omega arith);
+  names_inside = λ k d within. absurd (omega arith);
+}
+
+abbrev pub with_facts : List (ℕ × Fact) → Setting
 with_facts facts = record { image = no_image; facts = facts; hardware = default_hardware }
-  where
-    no_image : Image
-    no_image = record {
-      bytes = [];
-      ranges = [];
-      names = [];
-      ranges_inside = λ k d within. absurd (omega arith);
-      ranges_end = λ k d within. absurd (omega arith);
-      names_inside = λ k d within. absurd (omega arith);
-    }
 
 module _ (graph : Graph) (nest : Nest) (bounds : Bounds) (costs : Costs) (s : System) (inputs : Setting) where
-  pub given_from : length bounds.of ≡ length nest.heads → length costs.of ≡ length graph.steps → SystemOf inputs graph nest bounds costs (Ok s) → IsSystemIn graph nest s
-  given_from bounds_counted costs_counted (fine _ is) = record {
+  pub given_from : SystemOf inputs graph nest bounds costs (Ok s) → length bounds.of ≡ length nest.heads → length costs.of ≡ length graph.steps → IsSystemIn graph nest s
+  given_from (fine _ is) bounds_counted costs_counted = record {
     bounds = bounds;
     costs = costs;
     facts = inputs.facts;
@@ -44,5 +44,5 @@ module _ (graph : Graph) (nest : Nest) (bounds : Bounds) (costs : Costs) (s : Sy
   pub below_from : SystemOf inputs graph nest bounds costs (Ok s) → ceiling_of nest s < 2 ^ 100
   below_from (fine _ is) = is.below
 
-  pub unlimited_from : inputs.facts ≡ [] → SystemOf inputs graph nest bounds costs (Ok s) → s.limits ≡ []
-  unlimited_from none (fine _ is) = is.system_is.limits ∙ ap (flat_map (λ f. fact_limits graph f.1)) none
+  pub unlimited_from : SystemOf inputs graph nest bounds costs (Ok s) → inputs.facts ≡ [] → s.limits ≡ []
+  unlimited_from (fine _ is) none = is.system_is.limits ∙ ap (flat_map (λ f. fact_limits graph f.1)) none

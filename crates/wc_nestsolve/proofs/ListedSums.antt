@@ -13,50 +13,12 @@ use Rattle.wc_model.specs.declared.flow_system.SystemLoop.{SystemLoop}
 use Rattle.wc_model.specs.declared.flow_system.SystemStep.{SystemStep}
 use Rattle.wc_model.specs.Flow.Places.{is_listed, IsOnce}
 use Rattle.wc_model.specs.Flow.Systems.{ArePlaces}
+pub use Rattle.wc_dual.proofs.DualityLemmas.{get_all, sum_listed, times_chosen}
 use Rattle.wc_nestsolve.specs.Inner.Flows.{linear}
-
--- an element by its place is one of all
-pub get_all : {X : Type 0} (P : X → Type 0) (xs : List X) (i : ℕ) (x : X) → slice_get xs i ≡ Some x → All P xs → P x
-get_all P xs i x at all = subst P (get_or_from_slice_get xs i x x at) (all i x (slice_get_within xs i x at))
-
-pub times_chosen : (b : Bool) (c z : ℤ) → c *ℤ chosen b z ≡ chosen b (c *ℤ z)
-times_chosen true c z = refl
-times_chosen false c z = *ℤ-zero c
 
 pub once_chosen : (b : Bool) (z : ℤ) → chosen b z ≡ chosen b (pos 1) *ℤ z
 once_chosen true z = sym (one_times z)
 once_chosen false z = sym (zero-*ℤ z)
-
-same_number : (n i : ℕ) → (i == n) ≡ true → i ≡ n
-same_number n i is = grind (arith, nat_tests)
-
-turned : (n i : ℕ) → (i == n) ≡ (n == i)
-turned n i = by (n == i) refl
-  where
-    by : (b : Bool) → (n == i) ≡ b → (i == n) ≡ b
-    by true is = grind (arith, nat_tests)
-    by false is = grind (arith, nat_tests)
-
-chosen_apart : (a b : Bool) (z : ℤ) → (a ≡ true → b ≡ false) → chosen (a || b) z ≡ chosen a z +ℤ chosen b z
-chosen_apart true b z apart = omega (arith, ints, ap (λ c. chosen c z) (apart refl))
-chosen_apart false b z apart = omega (arith, ints)
-
--- A sum over the steps in a list of places, each of which stands there once.
-module _ {X : Type 0} (f : ℕ → ℤ) (steps : List X) where
-  pub sum_listed : (ns : List ℕ) → All (λ i. i < length steps) ns → IsOnce ns → sum_placed (λ i _. chosen (is_listed i ns) (f i)) steps ≡ sum_in f ns
-  sum_listed [] within once = sum_zero (λ i _. pos 0) steps (λ i t at. refl)
-  sum_listed (n ∷ ns) within once =
-      let here = get_there steps n (within zero 0 (omega arith)) in
-      sum_same (λ i _. chosen (is_listed i (n ∷ ns)) (f i)) (λ i _. chosen (n == i) (f i) +ℤ chosen (is_listed i ns) (f i)) steps
-      (λ i t at. chosen_apart (i == n) (is_listed i ns) (f i) (λ is. subst (λ k. is_listed k ns ≡ false) (sym (same_number n i is)) once.0)
-      ∙ ap (λ b. chosen b (f i) +ℤ chosen (is_listed i ns) (f i)) (turned n i))
-      ∙ sum_add (λ i _. chosen (n == i) (f i)) (λ i _. chosen (is_listed i ns) (f i)) steps
-      ∙ ap₂ (λ a b. a +ℤ b) (sum_pick (λ i _. f i) steps n here.0 here.1) (sum_listed ns (λ k d within'. within (suc k) d (omega (arith, within'))) once.1)
-    where
-      get_there : (xs : List X) (i : ℕ) → i < length xs → (x : X) × (slice_get xs i ≡ Some x)
-      get_there [] i below = absurd (omega arith)
-      get_there (y ∷ ys) zero below = (y, refl)
-      get_there (y ∷ ys) (suc i) below = get_there ys i (omega arith)
 
 -- What the loops say of each step, summed loop by loop: `places l` are those of the loop's steps, `price k l` is its price.
 module _ (s : System) (x : ℕ → ℤ) (places : SystemLoop → List ℕ) (price : ℕ → SystemLoop → ℤ) where

@@ -56,7 +56,7 @@ module _ (nest : Nest) (s : System) (is : IsSolvable nest s) where
   Ahead = LeadsAhead s nest
 
   -- the first nodes of an order: the steps ahead of each lead to nodes before
-  record IsOpen (order : List ℕ) : Type 0 where
+  record IsFront (order : List ℕ) : Type 0 where
     down : IsDownward s nest order
     known : (i p : ℕ) → slice_get order i ≡ Some p → p < s.nodes
     closed : (i p q : ℕ) → slice_get order i ≡ Some p → Ahead p (Some q) → is_listed q order ≡ true
@@ -144,8 +144,8 @@ module _ (nest : Nest) (s : System) (is : IsSolvable nest s) where
   listed_more : (xs : List ℕ) (q p : ℕ) → is_listed p xs ≡ true → is_listed p (xs ++ q ∷ []) ≡ true
   listed_more xs q p listed = let place = place_of xs p listed in listed_at (xs ++ q ∷ []) place.0 p (get_left xs (q ∷ []) place.0 p place.1)
 
-  extend : (order : List ℕ) (q : ℕ) → IsOpen order → IsNext order q → IsOpen (order ++ q ∷ [])
-  extend order q open next = record {
+  extend : (order : List ℕ) (q : ℕ) → IsFront order → IsNext order q → IsFront (order ++ q ∷ [])
+  extend order q front next = record {
     down = record {
       once = λ i j p at_i at_j. once i j p (get_push_cases order q i p at_i) (get_push_cases order q j p at_j);
       lower = λ n i j r t at ahead to at_i at_j. lower i j r t.source (n, t, at, ahead, refl, to) (get_push_cases order q i t.source at_i) (get_push_cases order q j r at_j);
@@ -158,30 +158,30 @@ module _ (nest : Nest) (s : System) (is : IsSolvable nest s) where
       unlisted i at = not_both (listed_at order i q at) next.fresh
 
       once : (i j p : ℕ) → (slice_get order i ≡ Some p) ⊎ ((i ≡ length order) × (q ≡ p)) → (slice_get order j ≡ Some p) ⊎ ((j ≡ length order) × (q ≡ p)) → i ≡ j
-      once i j p (inl at_i) (inl at_j) = open.down.once i j p at_i at_j
+      once i j p (inl at_i) (inl at_j) = front.down.once i j p at_i at_j
       once i j p (inl at_i) (inr new) = absurd (unlisted i (at_i ∙ ap Some (sym new.1)))
       once i j p (inr new) (inl at_j) = absurd (unlisted j (at_j ∙ ap Some (sym new.1)))
       once i j p (inr new) (inr also) = omega (arith, new.0, also.0)
 
       lower : (i j r p : ℕ) → Ahead p (Some r) → (slice_get order i ≡ Some p) ⊎ ((i ≡ length order) × (q ≡ p)) → (slice_get order j ≡ Some r) ⊎ ((j ≡ length order) × (q ≡ r)) → j < i
-      lower i j r p (n, t, at, ahead, from, to) (inl at_i) (inl at_j) = open.down.lower n i j r t at ahead to (at_i ∙ ap Some (sym from)) at_j
-      lower i j r p step (inl at_i) (inr new) = absurd (not_both (open.closed i p r at_i step) (ap (λ x. is_listed x order) (sym new.1) ∙ next.fresh))
+      lower i j r p (n, t, at, ahead, from, to) (inl at_i) (inl at_j) = front.down.lower n i j r t at ahead to (at_i ∙ ap Some (sym from)) at_j
+      lower i j r p step (inl at_i) (inr new) = absurd (not_both (front.closed i p r at_i step) (ap (λ x. is_listed x order) (sym new.1) ∙ next.fresh))
       lower i j r p step (inr new) (inl at_j) = omega (arith, new.0, slice_get_within order j r at_j)
       lower i j r p step (inr new) (inr also) =
           absurd (not_both (next.led r (subst (λ x. Ahead x (Some r)) (sym new.1) step)) (ap (λ x. is_listed x order) (sym also.1) ∙ next.fresh))
 
       known : (i p : ℕ) → (slice_get order i ≡ Some p) ⊎ ((i ≡ length order) × (q ≡ p)) → p < s.nodes
-      known i p (inl at) = open.known i p at
+      known i p (inl at) = front.known i p at
       known i p (inr new) = omega (arith, new.1, next.node)
 
       closed : (i p r : ℕ) → Ahead p (Some r) → (slice_get order i ≡ Some p) ⊎ ((i ≡ length order) × (q ≡ p)) → is_listed r (order ++ q ∷ []) ≡ true
-      closed i p r step (inl at) = listed_more order q r (open.closed i p r at step)
+      closed i p r step (inl at) = listed_more order q r (front.closed i p r at step)
       closed i p r step (inr new) = listed_more order q r (next.led r (subst (λ x. Ahead x (Some r)) (sym new.1) step))
 
-  open_few : (order : List ℕ) → IsOpen order → length order ≤ s.nodes
-  open_few order open = distinct_fits order s.nodes
-      (pairs_from (λ x y. x ≢ y) order (λ i j x y less at_x at_y same. let one = open.down.once i j y (at_x ∙ ap Some same) at_y in omega (arith, one)))
-      (λ p among. let place = get_from_contains order p among in open.known place.0 p place.1)
+  front_few : (order : List ℕ) → IsFront order → length order ≤ s.nodes
+  front_few order front = distinct_fits order s.nodes
+      (pairs_from (λ x y. x ≢ y) order (λ i j x y less at_x at_y same. let one = front.down.once i j y (at_x ∙ ap Some same) at_y in omega (arith, one)))
+      (λ p among. let place = get_from_contains order p among in front.known place.0 p place.1)
 
   -- a node that isn't listed yet
   missing : (order : List ℕ) (m : ℕ) → m ≤ s.nodes → ((p : ℕ) → p < m → is_listed p order ≡ true) ⊎ ((p : ℕ) × (p < s.nodes) × (is_listed p order ≡ false))
@@ -198,15 +198,15 @@ module _ (nest : Nest) (s : System) (is : IsSolvable nest s) where
           at_place p less (inl low') = all p low'
           at_place p less (inr high) = let same : p ≡ m = omega arith in ap (λ x. is_listed x order) same ∙ listed
 
-  grow : (fuel : ℕ) (order : List ℕ) → IsOpen order → s.nodes < length order + fuel → (done : List ℕ) × IsDownOrder s nest done
-  grow zero order open fuel = absurd (omega (arith, open_few order open))
-  grow (suc fuel') order open fuel = go (missing order s.nodes (omega arith)) (λ q more. grow fuel' (order ++ q ∷ []) more (omega (arith, length-append order (q ∷ []))))
+  grow : (fuel : ℕ) (order : List ℕ) → IsFront order → s.nodes < length order + fuel → (done : List ℕ) × IsDownOrder s nest done
+  grow zero order front fuel = absurd (omega (arith, front_few order front))
+  grow (suc fuel') order front fuel = go (missing order s.nodes (omega arith)) (λ q more. grow fuel' (order ++ q ∷ []) more (omega (arith, length-append order (q ∷ []))))
     where
-      go : ((p : ℕ) → p < s.nodes → is_listed p order ≡ true) ⊎ ((p : ℕ) × (p < s.nodes) × (is_listed p order ≡ false)) → ((q : ℕ) → IsOpen (order ++ q ∷ []) → (done : List ℕ) × IsDownOrder s nest done) → (done : List ℕ) × IsDownOrder s nest done
-      go (inl all) onward = (order, record { down = open.down; known = open.known; all = λ p known. place_of order p (all p known) })
+      go : ((p : ℕ) → p < s.nodes → is_listed p order ≡ true) ⊎ ((p : ℕ) × (p < s.nodes) × (is_listed p order ≡ false)) → ((q : ℕ) → IsFront (order ++ q ∷ []) → (done : List ℕ) × IsDownOrder s nest done) → (done : List ℕ) × IsDownOrder s nest done
+      go (inl all) onward = (order, record { down = front.down; known = front.known; all = λ p known. place_of order p (all p known) })
       go (inr (p, known, out)) onward =
           let next = find s.nodes order p [] (refl, tt) (λ x listed. absurd (not_both listed refl)) known out (omega arith) in
-          onward next.0 (extend order next.0 open next.1)
+          onward next.0 (extend order next.0 front next.1)
 
   pub order_exists : (order : List ℕ) × IsDownOrder s nest order
   order_exists = grow (suc s.nodes) [] (record {
