@@ -5,6 +5,7 @@ use Rattle.std.proofs.Math.IntN.{*ℤ-zero}
 use Rattle.std.proofs.Math.ListN.{get_or-eq_default}
 use Rattle.std.proofs.lemmas.Bool.{cases_lt}
 use Rattle.std.proofs.lemmas.Int.{ints}
+use Rattle.std.proofs.lemmas.List.{length-map}
 use Rattle.std.proofs.lemmas.Option.{get_or_from_slice_get, slice_get-get_or, slice_get_within}
 use Rattle.std.specs.Prelude.{All}
 use Rattle.wc_base.specs.Sums.{sum_placed, chosen}
@@ -51,10 +52,6 @@ settled_at [] p = refl
 settled_at (u ∷ us) zero = refl
 settled_at (u ∷ us) (suc p) = settled_at us p
 
-mapped_length : {A B : Type 0} (f : A → B) (xs : List A) → length (map f xs) ≡ length xs
-mapped_length f [] = refl
-mapped_length f (x ∷ xs) = ap suc (mapped_length f xs)
-
 module _ (nest : Nest) (s : System) (w : Ways) (ways : AreWays s nest w) (extra v : List ℕ) (rounds : AreRounds s nest w.order.items w.classes.items 0 extra v) (value : ℤ) (u : List (Option ℤ)) (x : List ℕ)
     (turned : IsTurn s nest v value (length s.loops) u x) where
   big : 2 ^ 100 < 2 ^ 127
@@ -67,15 +64,10 @@ module _ (nest : Nest) (s : System) (w : Ways) (ways : AreWays s nest w) (extra 
 
   pub rounds_small : length v ≡ length s.loops → All (λ n. n < 2 ^ 127) v
   rounds_small counted i d within =
-      let own = there s.loops i (omega (arith, within, counted)) in
+      let own = get_within s.loops i (omega (arith, within, counted)) in
       let done = rounds.done i own.0 own.1 (omega arith) in
       let value_is : get_or v i d ≡ get_or v i 0 = get_or_from_slice_get v i (get_or v i 0) d (slice_get-get_or v i 0 within) in
       omega (arith, done.small, big, value_is)
-    where
-      there : (xs : List SystemLoop) (i : ℕ) → i < length xs → (l : SystemLoop) × (slice_get xs i ≡ Some l)
-      there [] i less = absurd (omega arith)
-      there (y ∷ ys) zero less = (y, refl)
-      there (y ∷ ys) (suc i) less = there ys i (omega arith)
 
   -- the surcharge of the start is what its loop adds to the value
   start_part : pos (slice_index extra s.start) ≡ sum_placed (λ k l. chosen (l.head == s.start) (pos l.bound *ℤ numbers v k)) s.loops
@@ -135,7 +127,7 @@ module _ (nest : Nest) (s : System) (w : Ways) (ways : AreWays s nest w) (extra 
     made_holds = solution_holds s nest ways.solvable.nested (numbers v) c (potential_at u) value ways.solvable.sound unlimited ways.solvable.ending turned.potentials.met
         (flow_same s nest (numbers v) (length s.loops) value (numbers x) (number_at c.x) (λ i. sym (counts_are i)) turned.counts.flow)
         turned.potentials.at_start (λ k. omega (arith, ints)) rounds_are (λ p z known at. potentials_are p z at)
-        (ap length made.x_is ∙ mapped_length pos x ∙ turned.counts.counted) (ap length made.u_is ∙ mapped_length settled u ∙ turned.potentials.counted) (ap length made.v_is ∙ mapped_length pos v ∙ counted) made.w_is made.den made.scale
+        (ap length made.x_is ∙ length-map x pos ∙ turned.counts.counted) (ap length made.u_is ∙ length-map u settled ∙ turned.potentials.counted) (ap length made.v_is ∙ length-map v pos ∙ counted) made.w_is made.den made.scale
         (made.num ∙ ap₂ (λ a b. a +ℤ b) (settled_at u s.start ∙ ap settled turned.potentials.at_start) start_part)
 
     round_small : (k : ℕ) → slice_index v k ≤ 2 ^ 100

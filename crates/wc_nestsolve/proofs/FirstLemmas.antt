@@ -2,7 +2,7 @@
 use Rattle.std.proofs.Common.{◌≡◌, ℕ, zero, suc, ◌==◌, ◌+◌, ◌*◌, ◌<◌, ◌≤◌, ◌^◌, ℤ, pos, neg_ℤ, ◌+ℤ◌, ◌*ℤ◌, ◌≤ℤ◌, List, [], ◌∷◌, map, take, length, slice_index, slice_get, get_or, Option, Some, None, Bool, true, false, refl, sym, ap, subst, ◌∙◌, arith, lit<}
 use Rattle.std.proofs.Math.IntN.{*ℤ-zero}
 use Rattle.std.proofs.lemmas.Int.{ints}
-use Rattle.std.proofs.lemmas.List.{take_all}
+use Rattle.std.proofs.lemmas.List.{length-map, take_all}
 use Rattle.std.proofs.lemmas.Option.{slice_get_within}
 use Rattle.std.specs.List.{sum_by}
 use Rattle.wc_base.specs.Sums.{chosen}
@@ -90,13 +90,9 @@ module _ (nest : Nest) (s : System) (w : Ways) (ways : AreWays s nest w) (extra 
   mapped (x ∷ xs) zero = refl
   mapped (x ∷ xs) (suc p) = mapped xs p
 
-  mapped_length : (xs : List (Option Found)) → length (map potential_of xs) ≡ length xs
-  mapped_length [] = refl
-  mapped_length (x ∷ xs) = ap suc (mapped_length xs)
-
   pub first_potentials : (u : List (Option ℤ)) → u ≡ map potential_of best → (f : Found) → found_at best s.start ≡ Some f → ArePotentials s nest v (pos f.value) 0 u
   first_potentials u is f at = record {
-    counted = ap length is ∙ mapped_length best ∙ filled.counted;
+    counted = ap length is ∙ length-map best potential_of ∙ filled.counted;
     met = potential_same s nest (numbers v) 0 ways.solvable.sound (λ p. potential_of (found_at best p)) (potential_at u) (λ p known. sym (same p))
         (first_potential s nest ways.solvable.nested (numbers v) Inside extra best filled.table all (λ q inside. rounds.charged q));
     at_start = same s.start ∙ ap potential_of at;

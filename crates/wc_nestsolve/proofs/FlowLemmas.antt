@@ -19,11 +19,7 @@ use Rattle.wc_model.specs.Flow.Systems.{IsSystem, IsSystemLoop, leads_to}
 use Rattle.wc_nestsolve.specs.Inner.Flows.{IsFlow, IsRoundOf, linear}
 use Rattle.wc_nestsolve.specs.Inner.Nested.{IsLoop}
 use Rattle.wc_nestsolve.specs.Inner.Weights.{weight}
-use Rattle.wc_nestsolve.proofs.ListedSums.{by_loop, chosen_more, get_all, linear_more, places_more, times_chosen}
-
-sum_some : (x : ℕ → ℤ) → ((i : ℕ) → pos 0 ≤ℤ x i) → (places : List ℕ) → pos 0 ≤ℤ sum_in x places
-sum_some x some [] = omega (arith, ints)
-sum_some x some (i ∷ places) = omega (arith, ints, some i, sum_some x some places)
+use Rattle.wc_nestsolve.proofs.ListedSums.{by_loop, chosen_more, get_all, linear_more, places_more, sum_some, times_chosen}
 
 chosen_some : (b : Bool) → pos 0 ≤ℤ chosen b (pos 1)
 chosen_some true = omega (arith, ints)
@@ -42,7 +38,7 @@ module _ (s : System) (nest : Nest) (v : ℕ → ℤ) (value : ℤ) (k : ℕ) (l
 
   r_some : pos 0 ≤ℤ r
   r_some = subst (λ a. pos 0 ≤ℤ a) (sym rounds)
-      (times_some (pos l.bound) (entered s.start (pos 1) x l) (omega (arith, ints)) (omega (arith, ints, sum_some x flow.some l.entry, chosen_some (l.head == s.start))))
+      (times_some (pos l.bound) (entered s.start (pos 1) x l) (omega (arith, ints)) (omega (arith, ints, sum_some (λ _ i. x i) l.entry (λ _ i. flow.some i), chosen_some (l.head == s.start))))
 
   -- what comes into a loop is at least as much as before
   entered_more : (m : ℕ) (o : SystemLoop) → entered s.start (pos 1) z o ≡ entered s.start (pos 1) x o +ℤ r *ℤ sum_in y o.entry
@@ -94,7 +90,7 @@ module _ (s : System) (nest : Nest) (v : ℕ → ℤ) (value : ℤ) (k : ℕ) (l
         back_same m o there apart,
         flow.bounded m o there,
         monotone (pos o.bound) (entered s.start (pos 1) x o) (entered s.start (pos 1) z o) (omega (arith, ints))
-            (omega (arith, ints, entered_more m o, times_some r (sum_in y o.entry) r_some (sum_some y round.some o.entry))),
+            (omega (arith, ints, entered_more m o, times_some r (sum_in y o.entry) r_some (sum_some (λ _ i. y i) o.entry (λ _ i. round.some i)))),
       )
 
       tight_at : (m : ℕ) (o : SystemLoop) → IsLoop s nest m o → m < k + 1 → (m ≡ k) ⊎ (m ≡ k → ⊥) → v m *ℤ sum_in z o.back ≡ v m *ℤ (pos o.bound *ℤ entered s.start (pos 1) z o)

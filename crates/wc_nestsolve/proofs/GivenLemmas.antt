@@ -17,7 +17,7 @@ use Rattle.wc_model.specs.Workspace.Phases.{SystemOf, fine}
 use Rattle.wc_nestsolve.specs.Given.{IsSystemIn}
 
 -- inputs with these facts and no program
-no_image : Image
+pub no_image : Image
 no_image = record {
   bytes = [];
   ranges = [];

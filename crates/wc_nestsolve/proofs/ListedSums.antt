@@ -16,6 +16,11 @@ use Rattle.wc_model.specs.Flow.Systems.{ArePlaces}
 pub use Rattle.wc_dual.proofs.DualityLemmas.{get_all, sum_listed, times_chosen}
 use Rattle.wc_nestsolve.specs.Inner.Flows.{linear}
 
+-- a sum of terms that aren't negative
+pub sum_some : {X : Type 0} (f : ℕ → X → ℤ) (xs : List X) → ((i : ℕ) (x : X) → pos 0 ≤ℤ f i x) → pos 0 ≤ℤ sum_placed f xs
+sum_some f [] some = omega (arith, ints)
+sum_some f (x ∷ xs) some = omega (arith, ints, some zero x, sum_some (λ i. f (suc i)) xs (λ i. some (suc i)))
+
 pub once_chosen : (b : Bool) (z : ℤ) → chosen b z ≡ chosen b (pos 1) *ℤ z
 once_chosen true z = sym (one_times z)
 once_chosen false z = sym (zero-*ℤ z)

@@ -21,7 +21,7 @@ use Rattle.wc_model.specs.Workspace.Phases.{IsWhole}
 use Rattle.wc_model.proofs.Places.{get_from_contains}
 use Rattle.wc_dual.specs.Wide.{IsOut, IsWideCount, IsWideDual, IsWidePrice, IsWideSolution, Leaves, balance}
 use Rattle.wc_nestsolve.specs.Inner.Made.{AreNarrow}
-use Rattle.wc_nestsolve.proofs.ListedSums.{get_all}
+use Rattle.wc_nestsolve.proofs.ListedSums.{get_all, sum_some}
 use Rattle.wc_nestsolve.proofs.SmallLemmas.{term_low}
 
 in_range : (z : ℤ) → neg_ℤ (pos (2 ^ 126)) ≤ℤ z → z ≤ℤ pos (2 ^ 126) → InRange z
@@ -35,10 +35,6 @@ IsNear z n = (neg_ℤ (pos (n * 2 ^ 100)) ≤ℤ z) × (z ≤ℤ pos (n * 2 ^ 10
 
 -- a sum of terms that aren't negative grows
 module _ {X : Type 0} where
-  sum_some : (f : ℕ → X → ℤ) (xs : List X) → ((i : ℕ) (x : X) → pos 0 ≤ℤ f i x) → pos 0 ≤ℤ sum_placed f xs
-  sum_some f [] some = omega (arith, ints)
-  sum_some f (x ∷ xs) some = omega (arith, ints, some zero x, sum_some (λ i. f (suc i)) xs (λ i. some (suc i)))
-
   part_low : (f : ℕ → X → ℤ) (n : ℕ) (xs : List X) → ((i : ℕ) (x : X) → pos 0 ≤ℤ f i x) → (pos 0 ≤ℤ sum_placed f (take n xs)) × (sum_placed f (take n xs) ≤ℤ sum_placed f xs)
   part_low f zero xs some = (omega (arith, ints), sum_some f xs some)
   part_low f (suc n) [] some = (omega (arith, ints), omega (arith, ints))

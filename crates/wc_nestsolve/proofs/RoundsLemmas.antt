@@ -25,6 +25,7 @@ use Rattle.wc_nestsolve.proofs.CeilingLemmas.{part_le, part_once, room_below}
 use Rattle.wc_nestsolve.proofs.ClassLemmas.{down_filter, filter_from, filter_into}
 use Rattle.wc_nestsolve.proofs.ListedSums.{get_all}
 use Rattle.wc_nestsolve.proofs.RoomLemmas.{room_more, sum_total}
+use Rattle.wc_nestsolve.proofs.SmallLemmas.{part_of}
 use Rattle.wc_nestsolve.proofs.TableLemmas.{table_moved}
 use Rattle.wc_nestsolve.proofs.WeightLemmas.{same_by, test_apart, test_same}
 
@@ -214,11 +215,6 @@ module _ (nest : Nest) (s : System) (is : IsSolvable nest s) (order : List ℕ) 
         let place = of.all l.head head_known in
         let one = part_of (charge s nest extra_next) order place.0 l.head place.1 in
         omega (arith, whole, roomy_next.whole, one, extra_own)
-      where
-        part_of : (f : ℕ → ℕ) (xs : List ℕ) (i p : ℕ) → slice_get xs i ≡ Some p → f p ≤ total f xs
-        part_of f [] i p at = cc
-        part_of f (x ∷ xs) zero p at = omega (arith, ap f (same_Some x p at))
-        part_of f (x ∷ xs) (suc i) p at = omega (arith, part_of f xs i p at)
 
     pub round_next : (last : List (Option Found)) → length last ≡ length best → IsClear last → IsRoundsPass s nest order classes k extra_next v_next last
     round_next last same clear = record {

@@ -19,7 +19,8 @@ use Rattle.wc_nestsolve.specs.Inner.Orders.{IsDownOrder}
 use Rattle.wc_nestsolve.specs.Inner.Passes.{bounds_of, factor, numbers, rounds_in, worth_in}
 use Rattle.wc_nestsolve.specs.Inner.Solvable.{IsSolvable}
 use Rattle.wc_nestsolve.proofs.CeilingLemmas.{room_below}
-use Rattle.wc_nestsolve.proofs.ListedSums.{get_all}
+use Rattle.wc_nestsolve.proofs.FillLemmas.{dearest_low}
+use Rattle.wc_nestsolve.proofs.ListedSums.{get_all, sum_some}
 use Rattle.wc_nestsolve.proofs.SeenLemmas.{rounds_more}
 use Rattle.wc_nestsolve.proofs.WeightLemmas.{test_same}
 
@@ -28,12 +29,8 @@ pub term_low : {X : Type 0} (f : ℕ → X → ℤ) (xs : List X) → ((i : ℕ)
 term_low f [] some i x at = cc
 term_low f (y ∷ ys) some zero x at =
     let same : y ≡ x = cc in
-    let rest = rest_low (λ i. f (suc i)) ys (λ i. some (suc i)) in
+    let rest = sum_some (λ i. f (suc i)) ys (λ i. some (suc i)) in
     (omega (arith, ints, some zero y, rest), omega (arith, ints, ap (f zero) same, rest))
-  where
-    rest_low : {X : Type 0} (f : ℕ → X → ℤ) (xs : List X) → ((i : ℕ) (x : X) → pos 0 ≤ℤ f i x) → pos 0 ≤ℤ sum_placed f xs
-    rest_low f [] some' = omega (arith, ints)
-    rest_low f (z ∷ zs) some' = omega (arith, ints, some' zero z, rest_low (λ i. f (suc i)) zs (λ i. some' (suc i)))
 term_low f (y ∷ ys) some (suc i) x at =
     let rest = term_low (λ n. f (suc n)) ys (λ n. some (suc n)) i x at in
     (omega (arith, ints, some zero y, rest.0), omega (arith, ints, some zero y, rest.1))
@@ -50,17 +47,6 @@ dearest_some (t ∷ steps) p = by (t.source == p) (dearest_some steps p)
     by : (b : Bool) → 1 ≤ dearest steps p → 1 ≤ (if b then max t.cost (dearest steps p) else dearest steps p)
     by true rest = omega arith
     by false rest = rest
-
-dearest_cost : (steps : List SystemStep) (i : ℕ) (t : SystemStep) → slice_get steps i ≡ Some t → t.cost ≤ dearest steps t.source
-dearest_cost [] i t at = absurd (none-some t at)
-dearest_cost (r ∷ steps) zero t at =
-    let same : r ≡ t = same_Some r t at in
-    omega (arith, ap (λ o. o.cost) same, ap (λ b. if b then max r.cost (dearest steps t.source) else dearest steps t.source) (test_same r.source t.source (ap (λ o. o.source) same)))
-dearest_cost (r ∷ steps) (suc i) t at = by (r.source == t.source) (dearest_cost steps i t at)
-  where
-    by : (b : Bool) → t.cost ≤ dearest steps t.source → t.cost ≤ (if b then max r.cost (dearest steps t.source) else dearest steps t.source)
-    by true low = omega arith
-    by false low = low
 
 -- the rounds of the first loops are no more than those of all
 rounds_grow : (nest : Nest) (bounds : List ℕ) (count more p : ℕ) → rounds_in nest bounds 0 count p ≤ rounds_in nest bounds 0 (count + more) p
@@ -116,7 +102,7 @@ module _ (nest : Nest) (s : System) (is : IsSolvable nest s) (order : List ℕ) 
       let whole = room_below nest s is order of (length s.loops) (omega arith) in
       let none_left : length s.loops - length s.loops ≡ 0 = omega arith in
       let same : worth_in s nest (length s.loops) t.source ≡ dearest s.steps t.source * 1 = ap (λ n. dearest s.steps t.source * rounds_in nest (bounds_of s) (length s.loops) n t.source) none_left in
-      omega (arith, worth, whole, same, dearest_cost s.steps i t at)
+      omega (arith, worth, whole, same, dearest_low s.steps i t.source t at refl)
 
   -- a loop's bound for each entry is no more than the rounds of its head
   pub allowed_small : (k : ℕ) (l : SystemLoop) → slice_get s.loops k ≡ Some l → (n : ℤ) → n ≤ℤ pos (rounds_in nest (bounds_of s) 0 k l.head) → (pos l.bound *ℤ n) ≤ℤ pos (2 ^ 100)
