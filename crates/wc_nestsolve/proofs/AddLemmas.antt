@@ -1,6 +1,6 @@
 -- Walks are followed step by step, and added place by place.
-use Rattle.std.proofs.Common.{◌≡◌, ℕ, zero, suc, ◌==◌, ◌+◌, ◌-◌, ◌<◌, ◌≤◌, ◌^◌, ◌||◌, ◌++◌, ◌⊎◌, inl, inr, List, [], ◌∷◌, drop, length, set, slice_index, slice_get, get_or, Option, Some, None, Bool, true, false, if◌then◌else◌, refl, sym, ap, ap₂, subst, ◌∙◌, arith}
-use Rattle.std.proofs.lemmas.Bool.{cases_eq, or_parts}
+use Rattle.std.proofs.Common.{◌≡◌, ℕ, zero, suc, ◌+◌, ◌-◌, ◌<◌, ◌≤◌, ◌^◌, ◌||◌, ◌++◌, ◌⊎◌, inl, inr, List, [], ◌∷◌, length, set, slice_index, Option, Some, None, Bool, true, false, if◌then◌else◌, refl, sym, ap, ap₂, ◌∙◌, arith}
+use Rattle.std.proofs.lemmas.Bool.{cases_eq}
 use Rattle.std.proofs.lemmas.List.{append-nil, get_or-set_same, get_or-set_other, length-set}
 use Rattle.wc_model.specs.declared.flow_system.System.{System}
 use Rattle.wc_model.specs.declared.graphs.Nest.{Nest}
@@ -8,7 +8,7 @@ use Rattle.wc_model.specs.Flow.Places.{IsOnce, is_listed}
 use Rattle.wc_nestsolve.specs.declared.found.Found.{Found}
 use Rattle.wc_nestsolve.specs.Inner.Adding.{AreRoomy, IsAdded, IsAdding, goes_on}
 use Rattle.wc_nestsolve.specs.Inner.Tables.{found_at}
-use Rattle.wc_nestsolve.specs.Inner.Trails.{begins_with, goes_to, walk_from}
+use Rattle.wc_nestsolve.specs.Inner.Trails.{begins_with, walk_from}
 use Rattle.wc_nestsolve.proofs.WeightLemmas.{test_apart, test_same}
 
 module _ (s : System) (nest : Nest) (best : List (Option Found)) where

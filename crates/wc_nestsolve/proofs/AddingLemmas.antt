@@ -1,21 +1,18 @@
 -- The rounds of one loop are counted: what fits, and what the counts are.
-use Rattle.std.proofs.Common.{◌≡◌, ℕ, zero, suc, ◌==◌, ◌+◌, ◌*◌, ◌-◌, ◌<◌, ◌≤◌, ◌^◌, ◌⊎◌, inl, inr, ℤ, pos, ◌+ℤ◌, ◌*ℤ◌, ◌≤ℤ◌, List, [], ◌∷◌, map, length, slice_index, slice_get, get_or, Option, Some, None, Bool, true, false, if◌then◌else◌, refl, sym, ap, ap₂, subst, ◌∙◌, arith, lit<}
-use Rattle.std.proofs.lemmas.Int.{ints}
+use Rattle.std.proofs.Common.{◌≡◌, ℕ, zero, suc, ◌+◌, ◌*◌, ◌<◌, ◌≤◌, ◌^◌, ℤ, List, [], ◌∷◌, map, length, slice_index, slice_get, get_or, Option, Some, None, true, refl, sym, ap, subst, ◌∙◌, arith, lit<}
 use Rattle.std.proofs.lemmas.Option.{get_or_from_slice_get, same_Some, slice_get-get_or, slice_get_within}
 use Rattle.std.specs.Prelude.{All}
 use Rattle.std.specs.List.{sum_by}
-use Rattle.wc_base.specs.Sums.{chosen}
 use Rattle.wc_model.specs.declared.flow_system.System.{System}
 use Rattle.wc_model.specs.declared.flow_system.SystemLoop.{SystemLoop}
-use Rattle.wc_model.specs.declared.flow_system.SystemStep.{SystemStep}
 use Rattle.wc_model.specs.declared.graphs.Nest.{Nest}
 use Rattle.wc_model.specs.Flow.Places.{IsOnce}
 use Rattle.wc_nestsolve.specs.declared.found.Found.{Found}
 use Rattle.wc_nestsolve.specs.declared.ways.Ways.{Ways}
 use Rattle.wc_nestsolve.specs.Inner.Adding.{AreRoomy, AreWalkable, IsAdded, entered_times}
 use Rattle.wc_nestsolve.specs.Inner.LastPass.{AreCounts, IsFilledFor}
-use Rattle.wc_nestsolve.specs.Inner.Nested.{IsLoop, IsStep, lies}
-use Rattle.wc_nestsolve.specs.Inner.Passes.{bounds_of, class_of, numbers, rounds_in}
+use Rattle.wc_nestsolve.specs.Inner.Nested.{IsLoop, lies}
+use Rattle.wc_nestsolve.specs.Inner.Passes.{bounds_of, class_of, rounds_in}
 use Rattle.wc_nestsolve.specs.Inner.Tables.{IsDownward, found_at, value_of_found}
 use Rattle.wc_nestsolve.specs.Inner.Trails.{IsTrail, ends, goes, walk_from}
 use Rattle.wc_nestsolve.specs.Inner.Ways.{AreWays}
@@ -72,11 +69,11 @@ module _ (nest : Nest) (s : System) (w : Ways) (ways : AreWays s nest w) (place 
 
   pub walkable : AreWalkable s nest best
   walkable = record {
-      sound = ways.solvable.sound;
-      marks = ways.solvable.marks;
-      counted = f.tables.best_counted;
-      placed = λ p g at. let step = f.table.attained p g at in slice_get_within s.steps g.place step.step step.at;
-    }
+    sound = ways.solvable.sound;
+    marks = ways.solvable.marks;
+    counted = f.tables.best_counted;
+    placed = λ p g at. let step = f.table.attained p g at in slice_get_within s.steps g.place step.step step.at;
+  }
 
   -- the walk of a round
   pub round_trail : 0 < slice_index v place → (walk : List ℕ) → walk ≡ walk_from s nest best (length class) (Some f.own.head) → IsTrail s nest (Some f.own.head) Inside f.extra f.own.head walk (slice_index v place)

@@ -1,12 +1,10 @@
 -- Before the first round is found.
-use Rattle.std.proofs.Common.{◌≡◌, ℕ, zero, suc, ◌==◌, ◌+◌, ◌*◌, ◌-◌, ◌<◌, ◌≤◌, ℤ, pos, ◌*ℤ◌, List, [], ◌∷◌, length, replicate, slice_index, slice_get, Option, Some, None, Bool, true, false, refl, sym, ap, subst, ◌∙◌, arith}
+use Rattle.std.proofs.Common.{◌≡◌, ℕ, zero, suc, ◌==◌, ◌*◌, ◌-◌, ◌≤◌, pos, ◌*ℤ◌, List, [], ◌∷◌, length, replicate, slice_index, Option, None, Bool, true, false, refl, sym, ap, subst, ◌∙◌, arith}
 use Rattle.std.proofs.Math.IntN.{*ℤ-zero}
-use Rattle.std.proofs.Math.ListN.{get_or-eq_default}
-use Rattle.std.proofs.lemmas.Bool.{cases_lt}
 use Rattle.std.proofs.lemmas.Option.{slice_get_within}
 use Rattle.std.proofs.lemmas.List.{length-replicate}
 use Rattle.std.specs.List.{filter}
-use Rattle.wc_base.specs.Sums.{sum_placed, chosen}
+use Rattle.wc_base.specs.Sums.{chosen}
 use Rattle.wc_base.proofs.SumLemmas.{sum_zero}
 use Rattle.wc_model.specs.declared.flow_system.System.{System}
 use Rattle.wc_model.specs.declared.flow_system.SystemLoop.{SystemLoop}
@@ -15,7 +13,7 @@ use Rattle.wc_model.specs.Flow.Ceiling.{dearest, total}
 use Rattle.wc_nestsolve.specs.declared.found.Found.{Found}
 use Rattle.wc_nestsolve.specs.Inner.Nested.{lies}
 use Rattle.wc_nestsolve.specs.Inner.Passes.{IsRoundsPass, bounds_of, numbers, rounds_in, worth_in}
-use Rattle.wc_nestsolve.specs.Inner.Tables.{AreTables, IsClear, charge, found_at}
+use Rattle.wc_nestsolve.specs.Inner.Tables.{AreTables, charge, found_at}
 use Rattle.wc_nestsolve.specs.Inner.Weights.{surcharge}
 use Rattle.wc_nestsolve.specs.Inner.Solvable.{IsSolvable}
 

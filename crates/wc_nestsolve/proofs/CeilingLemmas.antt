@@ -1,8 +1,7 @@
 -- What all nodes add to a value at most is the system's ceiling.
-use Rattle.std.proofs.Common.{◌≡◌, ℕ, zero, suc, ◌==◌, ◌+◌, ◌*◌, ◌-◌, ◌<◌, ◌≤◌, ◌^◌, ◌||◌, ◌⊎◌, inl, inr, cond, List, [], ◌∷◌, map, length, slice_index, slice_get, get_or, Option, Some, None, Bool, true, false, not, if◌then◌else◌, refl, sym, ap, ap₂, subst, ◌∙◌, arith}
+use Rattle.std.proofs.Common.{◌≡◌, ℕ, zero, suc, ◌==◌, ◌+◌, ◌*◌, ◌-◌, ◌<◌, ◌≤◌, ◌^◌, ◌||◌, ◌⊎◌, inl, inr, cond, List, [], ◌∷◌, length, slice_index, slice_get, get_or, Option, Some, None, Bool, true, false, not, if◌then◌else◌, refl, sym, ap, ap₂, ◌∙◌, arith}
 use Rattle.std.proofs.Math.Nat.{mul-le-mul_left}
 use Rattle.std.proofs.lemmas.Bool.{cases_eq, cases_lt}
-use Rattle.std.proofs.lemmas.Bool.Decides.{nat_tests}
 use Rattle.std.proofs.lemmas.Option.{get_or_from_slice_get, slice_get-get_or, slice_get_within}
 use Rattle.std.proofs.lemmas.List.Kept.{AllPairs-filter}
 use Rattle.std.specs.List.{AllPairs, filter, range_with_len}
@@ -16,7 +15,7 @@ use Rattle.wc_nestsolve.specs.Inner.Nested.{lies}
 use Rattle.wc_nestsolve.specs.Inner.Orders.{IsDownOrder}
 use Rattle.wc_nestsolve.specs.Inner.Passes.{bounds_of, factor, rounds_in, worth_in}
 use Rattle.wc_nestsolve.specs.Inner.Solvable.{IsSolvable}
-use Rattle.wc_nestsolve.proofs.ClassLemmas.{filter_from, filter_into, not_above, parent_before}
+use Rattle.wc_nestsolve.proofs.ClassLemmas.{filter_from, not_above, parent_before}
 use Rattle.wc_nestsolve.proofs.WeightLemmas.{same_by, test_apart, test_same}
 
 -- The product over a range of loops is that over the loops round a node.

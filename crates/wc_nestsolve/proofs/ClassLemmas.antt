@@ -1,5 +1,5 @@
 -- The classes of the loops, node by node.
-use Rattle.std.proofs.Common.{◌≡◌, ℕ, zero, suc, ◌==◌, ◌+◌, ◌<◌, ◌≤◌, ◌||◌, ◌++◌, ◌⊎◌, inl, inr, cond, List, [], ◌∷◌, take, length, set, replicate, slice_index, slice_get, get_or, Option, Some, None, Bool, true, false, if◌then◌else◌, refl, sym, ap, ap₂, subst, ◌∙◌, arith, rules}
+use Rattle.std.proofs.Common.{◌≡◌, ℕ, zero, suc, ◌==◌, ◌+◌, ◌<◌, ◌≤◌, ◌||◌, ◌++◌, ◌⊎◌, inl, inr, cond, List, [], ◌∷◌, take, length, set, replicate, slice_get, get_or, Option, Some, None, Bool, true, false, if◌then◌else◌, refl, sym, ap, ap₂, subst, ◌∙◌, arith}
 use Rattle.std.proofs.lemmas.Bool.{cases_eq, cases_lt}
 use Rattle.std.proofs.lemmas.Bool.Decides.{nat_tests}
 use Rattle.std.proofs.lemmas.List.{append-nil, get_or-set_same, get_or-set_other, length-set}
@@ -18,7 +18,7 @@ use Rattle.wc_model.specs.Flow.Places.{is_listed}
 use Rattle.wc_model.specs.Flow.Systems.{is_marked}
 use Rattle.wc_nestsolve.specs.Inner.Nested.{IsStep, lies}
 use Rattle.wc_nestsolve.specs.Inner.Passes.{AreClasses, HasJoined, IsJoining, class_of, loops_from, more_if, rank_of}
-use Rattle.wc_nestsolve.specs.Inner.Tables.{IsAmong, IsDownward}
+use Rattle.wc_nestsolve.specs.Inner.Tables.{IsDownward}
 use Rattle.wc_nestsolve.proofs.WeightLemmas.{test_apart, test_same}
 
 -- The loops round a node, whatever the number that limits the walk outwards.

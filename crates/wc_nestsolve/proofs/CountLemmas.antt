@@ -1,27 +1,25 @@
 -- The rounds of one loop more are added to the counts.
-use Rattle.std.proofs.Common.{◌≡◌, ℕ, zero, suc, ◌==◌, ◌||◌, ◌+◌, ◌*◌, ◌-◌, ◌<◌, ◌≤◌, ◌^◌, ◌⊎◌, inl, inr, ℤ, pos, ◌+ℤ◌, ◌-ℤ◌, ◌*ℤ◌, ◌≤ℤ◌, List, [], ◌∷◌, length, slice_index, slice_get, Option, Some, None, Bool, true, false, if◌then◌else◌, refl, sym, ap, ap₂, subst, ◌∙◌, arith}
+use Rattle.std.proofs.Common.{◌≡◌, ℕ, zero, suc, ◌==◌, ◌||◌, ◌+◌, ◌*◌, ◌<◌, ◌≤◌, ◌⊎◌, inl, inr, ℤ, pos, ◌+ℤ◌, ◌*ℤ◌, ◌≤ℤ◌, List, [], ◌∷◌, slice_index, slice_get, Some, Bool, true, false, if◌then◌else◌, refl, sym, ap, subst, ◌∙◌, arith}
 use Rattle.std.proofs.Math.IntN.{*ℤ-zero, pos-*ℤ-pos}
 use Rattle.std.proofs.Math.Nat.{mul-le-mul, mul-le-mul_left}
 use Rattle.std.proofs.lemmas.Bool.{cases_eq, cases_lt}
 use Rattle.std.proofs.lemmas.Int.{ints}
-use Rattle.std.proofs.lemmas.Option.{same_Some, slice_get_within}
-use Rattle.std.specs.List.{sum_by}
-use Rattle.wc_base.specs.Sums.{sum_placed, sum_in, chosen}
+use Rattle.std.proofs.lemmas.Option.{same_Some}
+use Rattle.wc_base.specs.Sums.{sum_in, chosen}
 use Rattle.wc_base.proofs.Products.{monotone, times_one}
 use Rattle.wc_base.proofs.SumLemmas.{sum_same}
 use Rattle.wc_model.specs.declared.flow_system.System.{System}
 use Rattle.wc_model.specs.declared.flow_system.SystemLoop.{SystemLoop}
-use Rattle.wc_model.specs.declared.flow_system.SystemStep.{SystemStep}
 use Rattle.wc_model.specs.declared.graphs.Nest.{Nest}
 use Rattle.wc_model.specs.Flow.Ceiling.{total}
 use Rattle.wc_model.specs.Flow.Counts.{entered, into, out_of}
 use Rattle.wc_model.specs.Flow.Places.{IsOnce, is_listed}
 use Rattle.wc_model.specs.Flow.SystemWalks.{visits}
-use Rattle.wc_model.specs.Flow.Systems.{IsSystem, is_marked, leads_to}
+use Rattle.wc_model.specs.Flow.Systems.{IsSystem, leads_to}
 use Rattle.wc_nestsolve.specs.Inner.Adding.{IsAdded, entered_times}
 use Rattle.wc_nestsolve.specs.Inner.Flows.{IsFlow, IsRoundOf, linear}
 use Rattle.wc_nestsolve.specs.Inner.LastPass.{AreCounts}
-use Rattle.wc_nestsolve.specs.Inner.Nested.{IsLoop, IsNested, IsStep, lies}
+use Rattle.wc_nestsolve.specs.Inner.Nested.{IsLoop, IsNested, lies}
 use Rattle.wc_nestsolve.specs.Inner.Passes.{bounds_of, factor, numbers, rounds_in}
 use Rattle.wc_nestsolve.specs.Inner.Tables.{IsDownward}
 use Rattle.wc_nestsolve.specs.Inner.Trails.{IsTrail, tally}
@@ -31,7 +29,7 @@ use Rattle.wc_nestsolve.proofs.ListedSums.{chosen_linear, chosen_more}
 use Rattle.wc_nestsolve.proofs.RoomLemmas.{sum_total}
 use Rattle.wc_nestsolve.proofs.SeenLemmas.{entered_is, leaves_inside, leaves_once, rounds_more, trail_once}
 use Rattle.wc_nestsolve.proofs.TrailLemmas.{round_of, trail_linear}
-use Rattle.wc_nestsolve.proofs.WeightLemmas.{same_by, test_apart, test_same}
+use Rattle.wc_nestsolve.proofs.WeightLemmas.{test_apart, test_same}
 
 -- equal counts are the same flow
 pub flow_same : (s : System) (nest : Nest) (v : ℕ → ℤ) (count : ℕ) (value : ℤ) (x y : ℕ → ℤ) → ((i : ℕ) → x i ≡ y i) → IsFlow s nest v count value x → IsFlow s nest v count value y

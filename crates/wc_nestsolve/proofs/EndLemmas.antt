@@ -1,5 +1,5 @@
 -- The first potentials, that each node gets one, and that potentials and counts make a solution.
-use Rattle.std.proofs.Common.{◌≡◌, ℕ, zero, suc, ◌==◌, ◌+◌, ◌<◌, ◌≤◌, ℤ, pos, ◌+ℤ◌, ◌-ℤ◌, ◌*ℤ◌, ◌≤ℤ◌, ◌<ℤ◌, List, [], ◌∷◌, length, slice_get, slice_index, Option, Some, None, option_map, Bool, true, false, refl, sym, ap, ap₂, subst, ◌∙◌, arith}
+use Rattle.std.proofs.Common.{◌≡◌, ℕ, ◌==◌, ◌+◌, ◌<◌, ◌≤◌, ℤ, pos, ◌+ℤ◌, ◌*ℤ◌, ◌≤ℤ◌, ◌<ℤ◌, List, [], length, slice_index, Option, Some, None, option_map, Bool, true, false, refl, sym, ap, ap₂, subst, ◌∙◌, arith}
 use Rattle.std.proofs.lemmas.Int.{ints}
 use Rattle.std.proofs.lemmas.Option.{slice_get_within}
 use Rattle.std.specs.Prelude.{IfSome}
@@ -8,20 +8,19 @@ use Rattle.wc_base.proofs.Products.{one_times, times_one}
 use Rattle.wc_base.proofs.SumLemmas.{sum_same}
 use Rattle.wc_model.specs.declared.flow_system.Solution.{Solution}
 use Rattle.wc_model.specs.declared.flow_system.System.{System}
-use Rattle.wc_model.specs.declared.flow_system.SystemLoop.{SystemLoop}
 use Rattle.wc_model.specs.declared.flow_system.SystemStep.{SystemStep}
 use Rattle.wc_model.specs.declared.graphs.Nest.{Nest}
-use Rattle.wc_model.specs.Flow.Certificates.{ArePrices, Prices, SolutionHolds, ahead_of, back_price, dual_value, entry_price, limit_price, scaled, solution_prices, step_price}
-use Rattle.wc_model.specs.Flow.Counts.{IsFeasible, cycles, value_of}
+use Rattle.wc_model.specs.Flow.Certificates.{ArePrices, SolutionHolds, ahead_of, dual_value, limit_price, scaled, solution_prices, step_price}
+use Rattle.wc_model.specs.Flow.Counts.{IsFeasible, cycles}
 use Rattle.wc_model.specs.Flow.Ends.{system_ends}
 use Rattle.wc_model.specs.Flow.Places.{is_listed, number_at}
-use Rattle.wc_model.specs.Flow.Systems.{IsSystem, is_marked, leads_to}
+use Rattle.wc_model.specs.Flow.Systems.{IsSystem, is_marked}
 use Rattle.wc_model.specs.Flow.Walks.{Joins}
 use Rattle.wc_model.specs.Program.Reaching.{Ends, exits, onward}
 use Rattle.wc_model.proofs.Places.{get_from_contains}
 use Rattle.wc_nestsolve.specs.declared.found.Found.{Found}
 use Rattle.wc_nestsolve.specs.Inner.Flows.{IsFlow}
-use Rattle.wc_nestsolve.specs.Inner.Nested.{IsLoop, IsNested, IsStep}
+use Rattle.wc_nestsolve.specs.Inner.Nested.{IsNested, IsStep}
 use Rattle.wc_nestsolve.specs.Inner.Potentials.{Covers, IsMet, IsPotential, plus, potential_ahead, potential_of}
 use Rattle.wc_nestsolve.specs.Inner.Tables.{IsTable, found_at, reach}
 use Rattle.wc_nestsolve.specs.Inner.Weights.{surcharge, weight}

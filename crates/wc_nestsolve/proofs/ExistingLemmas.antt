@@ -1,5 +1,5 @@
 -- Tables, rounds, potentials and prices exist, with stated limits or without.
-use Rattle.std.proofs.Common.{◌≡◌, ℕ, zero, suc, ◌==◌, ◌+◌, ◌*◌, ◌<◌, ◌≤◌, ◌^◌, ◌⊎◌, inl, inr, ℤ, pos, ◌+ℤ◌, ◌*ℤ◌, ◌≤ℤ◌, List, [], ◌∷◌, map, length, replicate, set, slice_get, slice_index, slice_index_or, Option, None, Some, Bool, true, false, refl, sym, ap, subst, ◌∙◌, arith, lit<}
+use Rattle.std.proofs.Common.{◌≡◌, ℕ, zero, suc, ◌==◌, ◌+◌, ◌*◌, ◌<◌, ◌≤◌, ◌^◌, ◌⊎◌, inl, inr, ℤ, pos, ◌*ℤ◌, List, [], map, length, replicate, set, slice_get, slice_index_or, Option, None, Some, Bool, true, false, refl, sym, ap, subst, ◌∙◌, arith, lit<}
 use Rattle.std.specs.Prelude.{IfSome}
 use Rattle.std.specs.List.{filter, range_with_len}
 use Rattle.std.proofs.Math.IntN.{*ℤ-zero}
@@ -12,21 +12,21 @@ use Rattle.wc_model.specs.declared.flow_system.System.{System}
 use Rattle.wc_model.specs.declared.flow_system.SystemLoop.{SystemLoop}
 use Rattle.wc_model.specs.declared.flow_system.SystemStep.{SystemStep}
 use Rattle.wc_model.specs.declared.graphs.Nest.{Nest}
-use Rattle.wc_model.specs.Flow.Certificates.{ArePrices, Prices, factor_of, limit_price, scaled}
+use Rattle.wc_model.specs.Flow.Certificates.{ArePrices, Prices, factor_of, scaled}
 use Rattle.wc_model.specs.Flow.Systems.{is_marked}
 use Rattle.wc_model.proofs.Places.{get_within}
 use Rattle.wc_nestsolve.specs.declared.found.Found.{Found}
-use Rattle.wc_nestsolve.specs.Inner.Nested.{IsLoop, IsStep, lies}
+use Rattle.wc_nestsolve.specs.Inner.Nested.{IsStep, lies}
 use Rattle.wc_nestsolve.specs.Inner.Orders.{IsDownOrder}
 use Rattle.wc_nestsolve.specs.Inner.Passes.{AreClasses, AreRounds, IsRoundsPass, class_of, numbers}
 use Rattle.wc_nestsolve.specs.Inner.Potentials.{IsPotential, after_loop, potential_of}
 use Rattle.wc_nestsolve.specs.Inner.Raising.{settled}
 use Rattle.wc_nestsolve.specs.Inner.Solvable.{IsSolvable}
-use Rattle.wc_nestsolve.specs.Inner.Tables.{AreFillable, IsAmong, IsAttained, IsBestOf, IsClear, IsFilled, IsTable, better_of, charge, found_at, value_of_found, worth_of}
+use Rattle.wc_nestsolve.specs.Inner.Tables.{AreFillable, IsAmong, IsAttained, IsBestOf, IsFilled, better_of, charge, found_at, value_of_found, worth_of}
 use Rattle.wc_nestsolve.proofs.BeginLemmas.{none_at, rounds_begin}
 use Rattle.wc_nestsolve.proofs.BestLemmas.{better_new, better_one, better_up}
 use Rattle.wc_nestsolve.proofs.CeilingLemmas.{room_below}
-use Rattle.wc_nestsolve.proofs.EndLemmas.{first_potential, has_potential, prices_hold}
+use Rattle.wc_nestsolve.proofs.EndLemmas.{first_potential, prices_hold}
 use Rattle.wc_nestsolve.proofs.FillLemmas.{fill_begins, fill_more}
 use Rattle.wc_nestsolve.proofs.ListedSums.{get_all}
 use Rattle.wc_nestsolve.proofs.PotentialLemmas.{potential_after}

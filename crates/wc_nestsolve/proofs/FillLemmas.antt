@@ -1,7 +1,6 @@
 -- A table is filled node by node.
-use Rattle.std.proofs.Common.{◌≡◌, ℕ, zero, suc, ◌==◌, ◌+◌, ◌<◌, ◌≤◌, ◌^◌, ◌⊎◌, inl, inr, max, slice_get, slice_index, get_or, set, length, take, List, [], ◌∷◌, Option, Some, None, option_map, Bool, true, false, if◌then◌else◌, refl, sym, ap, subst, ◌∙◌, arith}
+use Rattle.std.proofs.Common.{◌≡◌, ℕ, zero, suc, ◌==◌, ◌+◌, ◌<◌, ◌≤◌, ◌⊎◌, inl, inr, max, slice_get, slice_index, set, length, take, List, [], ◌∷◌, Option, Some, None, option_map, Bool, true, false, if◌then◌else◌, refl, sym, ap, subst, ◌∙◌, arith}
 use Rattle.std.proofs.lemmas.Bool.{cases_lt, cases_eq}
-use Rattle.std.proofs.lemmas.Bool.Decides.{nat_tests}
 use Rattle.std.proofs.lemmas.List.{get_or-set_same, get_or-set_other, length-set}
 use Rattle.std.proofs.lemmas.List.Sums.{sum_by_more, sum_by-take-le}
 use Rattle.std.proofs.lemmas.Option.{get_or_from_slice_get, same_Some, slice_get_within}
@@ -14,8 +13,7 @@ use Rattle.wc_model.specs.Flow.Ends.{system_ends}
 use Rattle.wc_model.specs.Flow.Systems.{is_marked, leads_to}
 use Rattle.wc_model.specs.Flow.Walks.{AreStarts}
 use Rattle.wc_nestsolve.specs.declared.found.Found.{Found}
-use Rattle.wc_nestsolve.specs.Inner.Nested.{IsStep}
-use Rattle.wc_nestsolve.specs.Inner.Tables.{AreFillable, AreSmall, AreTables, IsAmong, IsAttained, IsBestIn, IsBestOf, IsClear, IsFilled, StandIn, charge, found_at, reach, worth_of}
+use Rattle.wc_nestsolve.specs.Inner.Tables.{AreFillable, AreSmall, IsBestIn, IsBestOf, IsClear, IsFilled, StandIn, charge, found_at, reach}
 use Rattle.wc_nestsolve.proofs.TableLemmas.{table_more}
 use Rattle.wc_nestsolve.proofs.WeightLemmas.{test_same}
 

@@ -1,6 +1,5 @@
 -- The last potentials and counts are a solution, and fit its numbers.
-use Rattle.std.proofs.Common.{◌≡◌, ℕ, zero, suc, ◌==◌, ◌+◌, ◌*◌, ◌-◌, ◌<◌, ◌≤◌, ◌^◌, ◌⊎◌, inl, inr, ℤ, pos, neg_ℤ, ◌+ℤ◌, ◌-ℤ◌, ◌*ℤ◌, ◌≤ℤ◌, List, [], ◌∷◌, map, length, slice_index, slice_get, get_or, max, if◌then◌else◌, Option, Some, None, Bool, true, false, refl, sym, ap, ap₂, subst, ◌∙◌, arith, lit<}
-use Rattle.std.proofs.Math.Nat.{mul-le-mul_right}
+use Rattle.std.proofs.Common.{◌≡◌, ℕ, zero, suc, ◌==◌, ◌+◌, ◌*◌, ◌<◌, ◌≤◌, ◌^◌, ◌⊎◌, inl, inr, ℤ, pos, neg_ℤ, ◌+ℤ◌, ◌*ℤ◌, ◌≤ℤ◌, List, [], ◌∷◌, map, length, slice_index, slice_get, get_or, Option, Some, None, Bool, true, false, refl, sym, ap, ap₂, subst, ◌∙◌, arith, lit<}
 use Rattle.std.proofs.Math.IntN.{*ℤ-zero}
 use Rattle.std.proofs.Math.ListN.{get_or-eq_default}
 use Rattle.std.proofs.lemmas.Bool.{cases_lt}
@@ -14,26 +13,21 @@ use Rattle.wc_base.proofs.SumLemmas.{sum_same}
 use Rattle.wc_model.specs.declared.flow_system.Solution.{Solution}
 use Rattle.wc_model.specs.declared.flow_system.System.{System}
 use Rattle.wc_model.specs.declared.flow_system.SystemLoop.{SystemLoop}
-use Rattle.wc_model.specs.declared.flow_system.SystemStep.{SystemStep}
 use Rattle.wc_model.specs.declared.graphs.Nest.{Nest}
-use Rattle.wc_model.specs.Flow.Ceiling.{dearest, total}
 use Rattle.wc_model.specs.Flow.Certificates.{SolutionHolds}
-use Rattle.wc_model.specs.Flow.Counts.{entered, out_of}
+use Rattle.wc_model.specs.Flow.Counts.{entered}
 use Rattle.wc_model.specs.Flow.Places.{number_at}
 use Rattle.wc_model.specs.Flow.Systems.{IsSystemLoop}
 use Rattle.wc_model.specs.Workspace.Phases.{IsWhole}
 use Rattle.wc_model.proofs.Places.{get_within}
 use Rattle.wc_dual.specs.Wide.{IsWideSolution}
 use Rattle.wc_nestsolve.specs.declared.ways.Ways.{Ways}
-use Rattle.wc_nestsolve.specs.Inner.LastPass.{AreCounts, ArePotentials, IsTurn}
+use Rattle.wc_nestsolve.specs.Inner.LastPass.{IsTurn}
 use Rattle.wc_nestsolve.specs.Inner.Made.{AreNarrow, IsMakable, IsMade}
-use Rattle.wc_nestsolve.specs.Inner.Nested.{IsLoop, IsStep}
-use Rattle.wc_nestsolve.specs.Inner.Passes.{AreRounds, bounds_of, numbers, rounds_in, worth_in}
+use Rattle.wc_nestsolve.specs.Inner.Passes.{AreRounds, bounds_of, numbers, rounds_in}
 use Rattle.wc_nestsolve.specs.Inner.Raising.{potential_at, settled}
 use Rattle.wc_nestsolve.specs.Inner.Tables.{charge}
 use Rattle.wc_nestsolve.specs.Inner.Ways.{AreWays}
-use Rattle.wc_nestsolve.specs.Inner.Weights.{surcharge}
-use Rattle.wc_nestsolve.proofs.CeilingLemmas.{room_below}
 use Rattle.wc_nestsolve.proofs.CountLemmas.{flow_same}
 use Rattle.wc_nestsolve.proofs.EndLemmas.{solution_holds}
 use Rattle.wc_nestsolve.proofs.ListedSums.{get_all}

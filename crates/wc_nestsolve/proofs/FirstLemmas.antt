@@ -1,6 +1,5 @@
 -- The last pass begins with the ways to the exit.
-use Rattle.std.proofs.Common.{◌≡◌, ℕ, zero, suc, ◌==◌, ◌+◌, ◌*◌, ◌<◌, ◌≤◌, ◌^◌, ℤ, pos, neg_ℤ, ◌+ℤ◌, ◌*ℤ◌, ◌≤ℤ◌, List, [], ◌∷◌, map, take, length, slice_index, slice_get, get_or, Option, Some, None, Bool, true, false, refl, sym, ap, subst, ◌∙◌, arith, lit<}
-use Rattle.std.proofs.Math.IntN.{*ℤ-zero}
+use Rattle.std.proofs.Common.{◌≡◌, ℕ, zero, suc, ◌==◌, ◌+◌, ◌*◌, ◌<◌, ◌^◌, ℤ, pos, neg_ℤ, ◌≤ℤ◌, List, [], ◌∷◌, map, length, slice_index, Option, Some, None, Bool, true, false, refl, sym, ap, subst, ◌∙◌, arith, lit<}
 use Rattle.std.proofs.lemmas.Int.{ints}
 use Rattle.std.proofs.lemmas.List.{length-map, take_all}
 use Rattle.std.proofs.lemmas.Option.{slice_get_within}
@@ -9,19 +8,17 @@ use Rattle.wc_base.specs.Sums.{chosen}
 use Rattle.wc_model.specs.declared.flow_system.System.{System}
 use Rattle.wc_model.specs.declared.flow_system.SystemStep.{SystemStep}
 use Rattle.wc_model.specs.declared.graphs.Nest.{Nest}
-use Rattle.wc_model.specs.Flow.Ceiling.{total}
-use Rattle.wc_model.specs.Flow.Counts.{out_of}
 use Rattle.wc_model.specs.Flow.SystemWalks.{visits}
 use Rattle.wc_nestsolve.specs.declared.found.Found.{Found}
 use Rattle.wc_nestsolve.specs.declared.ways.Ways.{Ways}
 use Rattle.wc_nestsolve.specs.Inner.Adding.{AreWalkable, IsAdded}
 use Rattle.wc_nestsolve.specs.Inner.LastPass.{AreCounts, ArePotentials}
 use Rattle.wc_nestsolve.specs.Inner.Nested.{IsStep}
-use Rattle.wc_nestsolve.specs.Inner.Passes.{AreRounds, bounds_of, numbers, rounds_in}
+use Rattle.wc_nestsolve.specs.Inner.Passes.{AreRounds, numbers}
 use Rattle.wc_nestsolve.specs.Inner.Potentials.{potential_of}
 use Rattle.wc_nestsolve.specs.Inner.Raising.{AreBelow, potential_at}
-use Rattle.wc_nestsolve.specs.Inner.Tables.{IsAmong, IsFilled, IsTable, charge, found_at}
-use Rattle.wc_nestsolve.specs.Inner.Trails.{IsTrail, tally, walk_from}
+use Rattle.wc_nestsolve.specs.Inner.Tables.{IsAmong, IsFilled, charge, found_at}
+use Rattle.wc_nestsolve.specs.Inner.Trails.{IsTrail, walk_from}
 use Rattle.wc_nestsolve.specs.Inner.Ways.{AreWays}
 use Rattle.wc_nestsolve.proofs.AddingLemmas.{trail_places}
 use Rattle.wc_nestsolve.proofs.CeilingLemmas.{order_few}
@@ -33,7 +30,6 @@ use Rattle.wc_nestsolve.proofs.PassLemmas.{whole_room}
 use Rattle.wc_nestsolve.proofs.RoomLemmas.{sum_total}
 use Rattle.wc_nestsolve.proofs.SeenLemmas.{leaves_once, trail_once}
 use Rattle.wc_nestsolve.proofs.TrailLemmas.{trail_linear, walk_trail, way_flow}
-use Rattle.wc_base.proofs.Products.{one_times}
 use Rattle.wc_base.proofs.SumLemmas.{sum_same}
 use Rattle.std.specs.Prelude.{All, if◌then◌else◌}
 use Rattle.wc_model.specs.Flow.Places.{IsOnce, is_listed}

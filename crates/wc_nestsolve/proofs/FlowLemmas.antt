@@ -1,20 +1,19 @@
 -- The rounds of one loop more, and the counts at the end: they are feasible, and their value is that of the prices.
-use Rattle.std.proofs.Common.{◌≡◌, ℕ, zero, suc, ◌==◌, ◌+◌, ◌<◌, ◌≤◌, ◌⊎◌, inl, inr, ℤ, pos, ◌+ℤ◌, ◌-ℤ◌, ◌*ℤ◌, ◌≤ℤ◌, List, [], ◌∷◌, length, slice_get, get_or, Option, Some, None, Bool, true, false, refl, sym, ap, ap₂, subst, ◌∙◌, arith}
+use Rattle.std.proofs.Common.{◌≡◌, ℕ, ◌==◌, ◌+◌, ◌<◌, ◌≤◌, ◌⊎◌, inl, inr, ℤ, pos, ◌+ℤ◌, ◌-ℤ◌, ◌*ℤ◌, ◌≤ℤ◌, List, [], length, slice_get, get_or, Some, Bool, true, false, sym, ap, subst, ◌∙◌, arith}
 use Rattle.std.proofs.Math.IntN.{*ℤ-zero, zero-*ℤ, *ℤ_comm}
-use Rattle.std.proofs.lemmas.Bool.{cases_lt, cases_eq}
+use Rattle.std.proofs.lemmas.Bool.{cases_eq}
 use Rattle.std.proofs.lemmas.Int.{ints}
 use Rattle.std.proofs.lemmas.Option.{slice_get_within, slice_get-get_or}
 use Rattle.std.specs.Prelude.{All}
 use Rattle.wc_base.specs.Sums.{sum_placed, sum_in, chosen}
 use Rattle.wc_base.proofs.Products.{assoc, exchange, monotone, spread, spread_left, spread_less, times_one}
-use Rattle.wc_base.proofs.SumLemmas.{sum_same, sum_most, sum_zero, sum_add, sum_less}
+use Rattle.wc_base.proofs.SumLemmas.{sum_same, sum_add, sum_less}
 use Rattle.wc_model.specs.declared.flow_system.System.{System}
-use Rattle.wc_model.specs.declared.flow_system.SystemLimit.{SystemLimit}
 use Rattle.wc_model.specs.declared.flow_system.SystemLoop.{SystemLoop}
 use Rattle.wc_model.specs.declared.flow_system.SystemStep.{SystemStep}
 use Rattle.wc_model.specs.declared.graphs.Nest.{Nest}
 use Rattle.wc_model.specs.Flow.Certificates.{back_price, entry_price}
-use Rattle.wc_model.specs.Flow.Counts.{IsBounded, IsFeasible, IsLimited, cycles, entered, into, out_of, value_of}
+use Rattle.wc_model.specs.Flow.Counts.{IsBounded, IsFeasible, IsLimited, cycles, entered, value_of}
 use Rattle.wc_model.specs.Flow.Systems.{IsSystem, IsSystemLoop, leads_to}
 use Rattle.wc_nestsolve.specs.Inner.Flows.{IsFlow, IsRoundOf, linear}
 use Rattle.wc_nestsolve.specs.Inner.Nested.{IsLoop}

@@ -1,17 +1,13 @@
 -- Sums over the steps of some places, and over the loops whose steps they are.
-use Rattle.std.proofs.Common.{◌≡◌, ℕ, zero, suc, ◌==◌, ◌<◌, ◌||◌, ℤ, pos, ◌+ℤ◌, ◌-ℤ◌, ◌*ℤ◌, ◌≤ℤ◌, List, [], ◌∷◌, length, slice_get, Option, Some, None, Bool, true, false, refl, sym, ap, ap₂, subst, ◌∙◌, arith}
-use Rattle.std.proofs.Math.IntN.{*ℤ-zero, zero-*ℤ, *ℤ_comm}
-use Rattle.std.proofs.lemmas.Bool.Decides.{nat_tests}
+use Rattle.std.proofs.Common.{◌≡◌, ℕ, zero, suc, ℤ, pos, ◌+ℤ◌, ◌*ℤ◌, ◌≤ℤ◌, List, [], ◌∷◌, length, slice_get, Some, Bool, true, false, sym, ap, ap₂, ◌∙◌, arith}
+use Rattle.std.proofs.Math.IntN.{zero-*ℤ, *ℤ_comm}
 use Rattle.std.proofs.lemmas.Int.{ints}
-use Rattle.std.proofs.lemmas.Option.{slice_get_within, get_or_from_slice_get}
-use Rattle.std.specs.Prelude.{All}
 use Rattle.wc_base.specs.Sums.{sum_placed, sum_in, chosen}
-use Rattle.wc_base.proofs.Products.{spread_left, exchange, times_one, one_times}
-use Rattle.wc_base.proofs.SumLemmas.{sum_same, sum_zero, sum_add, sum_scale, sum_pick, sum_swap}
+use Rattle.wc_base.proofs.Products.{spread_left, exchange, one_times}
+use Rattle.wc_base.proofs.SumLemmas.{sum_same, sum_add, sum_scale, sum_swap}
 use Rattle.wc_model.specs.declared.flow_system.System.{System}
 use Rattle.wc_model.specs.declared.flow_system.SystemLoop.{SystemLoop}
-use Rattle.wc_model.specs.declared.flow_system.SystemStep.{SystemStep}
-use Rattle.wc_model.specs.Flow.Places.{is_listed, IsOnce}
+use Rattle.wc_model.specs.Flow.Places.{is_listed}
 use Rattle.wc_model.specs.Flow.Systems.{ArePlaces}
 pub use Rattle.wc_dual.proofs.DualityLemmas.{get_all, sum_listed, times_chosen}
 use Rattle.wc_nestsolve.specs.Inner.Flows.{linear}

@@ -1,7 +1,6 @@
 -- One loop of the last pass: what its calls need, and what they give.
-use Rattle.std.proofs.Common.{◌≡◌, ℕ, zero, suc, ◌==◌, ◌+◌, ◌*◌, ◌-◌, ◌<◌, ◌≤◌, ◌^◌, ◌⊎◌, inl, inr, ℤ, pos, neg_ℤ, ◌+ℤ◌, ◌-ℤ◌, ◌*ℤ◌, ◌≤ℤ◌, List, [], ◌∷◌, length, slice_index, slice_get, get_or, Option, Some, None, Bool, true, false, refl, sym, ap, ap₂, subst, ◌∙◌, arith, lit<}
+use Rattle.std.proofs.Common.{◌≡◌, ℕ, ◌+◌, ◌*◌, ◌<◌, ◌≤◌, ◌^◌, ℤ, pos, neg_ℤ, ◌-ℤ◌, ◌≤ℤ◌, List, length, slice_index, slice_get, get_or, Option, Some, None, Bool, true, false, refl, sym, ap, ap₂, subst, ◌∙◌, arith, lit<}
 use Rattle.std.proofs.Math.ListN.{get_or-eq_default}
-use Rattle.std.proofs.lemmas.Bool.{cases_lt}
 use Rattle.std.proofs.lemmas.Int.{ints}
 use Rattle.std.proofs.lemmas.List.{get_or_read}
 use Rattle.std.proofs.lemmas.Option.{same_Some, slice_get_within}
@@ -11,15 +10,15 @@ use Rattle.wc_model.specs.declared.graphs.Nest.{Nest}
 use Rattle.wc_nestsolve.specs.declared.found.Found.{Found}
 use Rattle.wc_nestsolve.specs.declared.ways.Ways.{Ways}
 use Rattle.wc_nestsolve.specs.Inner.LastPass.{ArePotentials, IsFilledFor}
-use Rattle.wc_nestsolve.specs.Inner.Nested.{IsLoop, lies}
+use Rattle.wc_nestsolve.specs.Inner.Nested.{lies}
 use Rattle.wc_nestsolve.specs.Inner.Passes.{class_of, numbers}
-use Rattle.wc_nestsolve.specs.Inner.Potentials.{after_loop, raised_by}
+use Rattle.wc_nestsolve.specs.Inner.Potentials.{after_loop}
 use Rattle.wc_nestsolve.specs.Inner.Raising.{AreBelow, AreRaisable, IsRaised, potential_at}
 use Rattle.wc_nestsolve.specs.Inner.Tables.{IsAmong, found_at, value_of_found}
 use Rattle.wc_nestsolve.specs.Inner.Ways.{AreWays}
 use Rattle.wc_nestsolve.proofs.LastLemmas.{potentials_after}
 use Rattle.wc_nestsolve.proofs.RoundsLemmas.{class_from, class_into, class_is, head_known, loop_within}
-use Rattle.wc_nestsolve.proofs.ClassLemmas.{down_filter, filter_from}
+use Rattle.wc_nestsolve.proofs.ClassLemmas.{down_filter}
 
 module _ (nest : Nest) (s : System) (w : Ways) (ways : AreWays s nest w) (place : ℕ) (v : List ℕ) (best : List (Option Found)) (f : IsFilledFor s nest w place v best) where
   abbrev class : List ℕ
@@ -45,11 +44,11 @@ module _ (nest : Nest) (s : System) (w : Ways) (ways : AreWays s nest w) (place 
   module _ (value : ℤ) (u : List (Option ℤ)) (old : ArePotentials s nest v value place u) where
     pub raisable : AreRaisable class best u
     raisable = record {
-        once = subst (λ xs. (i j p : ℕ) → slice_get xs i ≡ Some p → slice_get xs j ≡ Some p → i ≡ j) (sym (class_is nest s ways.solvable w.order.items ways.order w.classes.items ways.classes place f.own f.here))
+      once = subst (λ xs. (i j p : ℕ) → slice_get xs i ≡ Some p → slice_get xs j ≡ Some p → i ≡ j) (sym (class_is nest s ways.solvable w.order.items ways.order w.classes.items ways.classes place f.own f.here))
           (down_filter s nest w.order.items ways.order.down (lies nest place)).once;
-        known = λ i p at. omega (arith, f.tables.best_counted, (inside (length class) p (i, slice_get_within class i p at, at)).1);
-        known_u = λ i p at. omega (arith, old.counted, (inside (length class) p (i, slice_get_within class i p at, at)).1);
-      }
+      known = λ i p at. omega (arith, f.tables.best_counted, (inside (length class) p (i, slice_get_within class i p at, at)).1);
+      known_u = λ i p at. omega (arith, old.counted, (inside (length class) p (i, slice_get_within class i p at, at)).1);
+    }
 
     after : (new : List (Option ℤ)) → length new ≡ length u
         → ((p : ℕ) → p < s.nodes → potential_at new p ≡ after_loop (potential_at u f.own.head) (numbers v place) (lies nest place p) (potential_at u p) (found_at best p)) → ArePotentials s nest v value (place + 1) new

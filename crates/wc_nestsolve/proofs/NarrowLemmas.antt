@@ -1,11 +1,11 @@
 -- The check of a narrow solution stays in its range: each product and each sum that it names does.
-use Rattle.std.proofs.Common.{◌≡◌, ℕ, zero, suc, ◌==◌, ◌+◌, ◌*◌, ◌<◌, ◌≤◌, ◌^◌, ℤ, pos, neg_ℤ, ◌+ℤ◌, ◌-ℤ◌, ◌*ℤ◌, ◌≤ℤ◌, List, [], ◌∷◌, length, take, slice_get, Option, Some, None, Bool, true, false, refl, sym, ap, ap₂, subst, ◌∙◌, arith}
+use Rattle.std.proofs.Common.{◌≡◌, ℕ, zero, suc, ◌==◌, ◌*◌, ◌≤◌, ◌^◌, ℤ, pos, neg_ℤ, ◌+ℤ◌, ◌-ℤ◌, ◌*ℤ◌, ◌≤ℤ◌, List, [], ◌∷◌, length, take, slice_get, Option, Some, None, Bool, true, false, refl, sym, ap, subst, ◌∙◌, arith}
 use Rattle.std.proofs.Math.IntN.{*ℤ-zero}
 use Rattle.std.proofs.lemmas.Int.{ints}
 use Rattle.std.proofs.lemmas.Option.{none-some}
 use Rattle.std.specs.List.{Contains}
 use Rattle.wc_base.specs.Arithmetic.{InRange}
-use Rattle.wc_base.specs.Sums.{sum_placed, sum_in, chosen}
+use Rattle.wc_base.specs.Sums.{sum_placed, chosen}
 use Rattle.wc_base.proofs.Products.{monotone, one_times, times_one}
 use Rattle.wc_base.proofs.SumLemmas.{sum_less}
 use Rattle.wc_model.specs.declared.flow_system.Solution.{Solution}
@@ -14,12 +14,12 @@ use Rattle.wc_model.specs.declared.flow_system.SystemLimit.{SystemLimit}
 use Rattle.wc_model.specs.declared.flow_system.SystemLoop.{SystemLoop}
 use Rattle.wc_model.specs.declared.flow_system.SystemStep.{SystemStep}
 use Rattle.wc_model.specs.Flow.Certificates.{SolutionHolds, ahead_of, back_price, dual_value, entry_price, factor_of, scaled, solution_prices}
-use Rattle.wc_model.specs.Flow.Counts.{IsBounded, IsFeasible, cycles, entered, into, out_of, value_of}
+use Rattle.wc_model.specs.Flow.Counts.{IsBounded, IsFeasible, cycles, entered}
 use Rattle.wc_model.specs.Flow.Places.{is_listed, number_at}
 use Rattle.wc_model.specs.Flow.Systems.{leads_to}
 use Rattle.wc_model.specs.Workspace.Phases.{IsWhole}
 use Rattle.wc_model.proofs.Places.{get_from_contains}
-use Rattle.wc_dual.specs.Wide.{IsOut, IsWideCount, IsWideDual, IsWidePrice, IsWideSolution, Leaves, balance}
+use Rattle.wc_dual.specs.Wide.{IsOut, IsWideCount, IsWideDual, IsWidePrice, IsWideSolution, balance}
 use Rattle.wc_nestsolve.specs.Inner.Made.{AreNarrow}
 use Rattle.wc_nestsolve.proofs.ListedSums.{get_all, sum_some}
 use Rattle.wc_nestsolve.proofs.SmallLemmas.{term_low}

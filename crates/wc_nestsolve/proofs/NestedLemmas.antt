@@ -1,6 +1,6 @@
 -- What the lists of a nest say of its loops.
-use Rattle.std.proofs.Common.{ℕ, zero, suc, ◌≡◌, ◌+◌, ◌<◌, ◌≤◌, ◌⊎◌, inl, inr, ⊎_elim, Bool, true, false, ◌==◌, ◌||◌, List, [], ◌∷◌, map, Option, None, Some, length, refl, sym, ap, subst, ◌∙◌, arith}
-use Rattle.std.specs.List.{AllPairs, Contains, slice_get, slice_index_or}
+use Rattle.std.proofs.Common.{ℕ, zero, suc, ◌≡◌, ◌<◌, ◌≤◌, ◌⊎◌, inl, inr, ⊎_elim, Bool, true, false, ◌==◌, ◌||◌, List, Option, None, Some, length, refl, sym, ap, subst, ◌∙◌, arith}
+use Rattle.std.specs.List.{Contains, slice_get, slice_index_or}
 use Rattle.std.specs.Option.{option_and_then}
 use Rattle.std.proofs.lemmas.Bool.{cases_lt}
 use Rattle.std.proofs.lemmas.List.Elements.{All-contains}
@@ -10,7 +10,7 @@ use Rattle.wc_model.specs.declared.graphs.Graph.{Graph}
 use Rattle.wc_model.specs.declared.graphs.Head.{Head}
 use Rattle.wc_model.specs.declared.graphs.Nest.{Nest}
 use Rattle.wc_model.specs.declared.graphs.Step.{Step}
-use Rattle.wc_model.specs.Flow.Ceiling.{loops_out, loops_round, parent_of}
+use Rattle.wc_model.specs.Flow.Ceiling.{loops_out, parent_of}
 use Rattle.wc_model.specs.Flow.Nest.{HeadAt, ClassAt, ComesBefore, IsHeadFor, IsParent, IsInside, IsNest}
 use Rattle.wc_model.specs.Flow.Places.{is_listed}
 use Rattle.wc_model.specs.Program.Graphs.{IsGraph}
@@ -215,11 +215,16 @@ module _ (graph : Graph) (is_graph : IsGraph graph) (nest : Nest) (of : IsNest g
       by_inside : (o : Option ℕ) → slice_index_or nest.inside p None ≡ o → (n : ℕ) × (i : ℕ) × IsHeadFor graph nest.heads n i p × (l ≤ n) × (ClassAt graph (suc n) p p → ⊥)
       by_inside None at = absurd (inside_at None at (class_below graph l 0 p p (omega arith) looped))
       by_inside (Some i) at =
-          let inside = inside_at (Some i) at in
-          (inside.0, i, inside.1, ⊎_elim
-          (λ (less : inside.0 < l). absurd (inside.2 (class_below graph l (suc inside.0) p p (omega arith) looped)))
-          (λ (fine : l ≤ inside.0). fine)
-          (cases_lt inside.0 l), inside.2)
+          let inside = inside_at (Some i) at in (
+            inside.0,
+            i,
+            inside.1,
+            ⊎_elim
+                (λ (less : inside.0 < l). absurd (inside.2 (class_below graph l (suc inside.0) p p (omega arith) looped)))
+                (λ (fine : l ≤ inside.0). fine)
+                (cases_lt inside.0 l),
+            inside.2,
+          )
 
   -- a step into a loop from outside of it leads to its head
   pub lies_entered : (k : ℕ) (x : Head) (s : Step) (q : ℕ) → slice_get nest.heads k ≡ Some x → Contains graph.steps s → s.target ≡ Some q → lies nest k q ≡ true → lies nest k s.source ≡ false → q ≡ x.node

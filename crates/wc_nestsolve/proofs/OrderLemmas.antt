@@ -1,8 +1,7 @@
 -- The steps ahead have no cycle, and lead from the start to all nodes.
-use Rattle.std.proofs.Common.{◌≡◌, ℕ, zero, suc, ◌+◌, ◌<◌, ◌≤◌, ◌++◌, ◌⊎◌, inl, inr, List, [], ◌∷◌, drop, length, slice_get, slice_index_or, get_or, Option, Some, None, option_map, Bool, true, false, refl, sym, ap, ap₂, subst, ◌∙◌, arith}
+use Rattle.std.proofs.Common.{◌≡◌, ℕ, zero, suc, ◌+◌, ◌<◌, ◌≤◌, ◌++◌, List, [], ◌∷◌, drop, length, slice_get, slice_index_or, get_or, Option, Some, None, option_map, Bool, true, false, refl, sym, ap, ap₂, subst, ◌∙◌, arith}
 use Rattle.std.proofs.lemmas.List.{append-nil}
-use Rattle.std.proofs.lemmas.Option.{get_or_from_slice_get, same_Some, slice_get-get_or, slice_get_within}
-use Rattle.std.specs.List.{AllPairs, Contains}
+use Rattle.std.proofs.lemmas.Option.{get_or_from_slice_get, same_Some, slice_get-get_or}
 use Rattle.std.specs.Prelude.{All, IfSome}
 use Rattle.wc_model.specs.declared.flow_system.System.{System}
 use Rattle.wc_model.specs.declared.flow_system.SystemLoop.{SystemLoop}
@@ -10,12 +9,11 @@ use Rattle.wc_model.specs.declared.flow_system.SystemStep.{SystemStep}
 use Rattle.wc_model.specs.declared.graphs.Nest.{Nest}
 use Rattle.wc_model.specs.Flow.Ends.{system_ends}
 use Rattle.wc_model.specs.Flow.Systems.{is_marked}
-use Rattle.wc_model.specs.Flow.Walks.{AreSteps, IsCycle, IsOrder, Joins, LeadsOn}
+use Rattle.wc_model.specs.Flow.Walks.{AreSteps, IsCycle, IsOrder, Joins}
 use Rattle.wc_model.specs.Program.Reaching.{Reaches, here, along}
 use Rattle.wc_model.proofs.Places.{contains_from_get, get_from_contains}
 use Rattle.wc_nestsolve.specs.Inner.Nested.{IsLoop, IsStep, lies}
 use Rattle.wc_nestsolve.specs.Inner.Orders.{IsDownOrder, loose, loosened}
-use Rattle.wc_nestsolve.specs.Inner.Tables.{IsDownward}
 use Rattle.wc_nestsolve.specs.Inner.Solvable.{IsSolvable, LeadsAhead}
 use Rattle.wc_nestsolve.proofs.ListedSums.{get_all}
 

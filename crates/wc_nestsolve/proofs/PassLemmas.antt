@@ -1,5 +1,5 @@
 -- What the tables of the last pass are.
-use Rattle.std.proofs.Common.{◌≡◌, ℕ, ◌+◌, ◌<◌, ◌≤◌, ◌^◌, ◌⊎◌, inl, inr, ℤ, pos, List, take, length, slice_index, slice_get, Option, Some, None, Bool, true, false, refl, sym, ap, subst, ◌∙◌, arith, lit<}
+use Rattle.std.proofs.Common.{◌≡◌, ℕ, ◌<◌, ◌^◌, List, length, Option, Some, true, sym, ap, subst, ◌∙◌, arith, lit<}
 use Rattle.std.proofs.lemmas.List.{take_all}
 use Rattle.std.specs.List.{filter, sum_by}
 use Rattle.wc_model.specs.declared.flow_system.System.{System}
@@ -10,11 +10,9 @@ use Rattle.wc_nestsolve.specs.declared.found.Found.{Found}
 use Rattle.wc_nestsolve.specs.declared.ways.Ways.{Ways}
 use Rattle.wc_nestsolve.specs.Inner.LastPass.{IsFilledFor}
 use Rattle.wc_nestsolve.specs.Inner.Nested.{IsLoop, lies}
-use Rattle.wc_nestsolve.specs.Inner.Orders.{IsDownOrder}
-use Rattle.wc_nestsolve.specs.Inner.Passes.{AreClasses, AreRounds, IsRoundsPass, class_of, worth_in}
-use Rattle.wc_nestsolve.specs.Inner.Tables.{AreFillable, AreTables, IsAmong, IsFilled, charge, found_at, value_of_found}
+use Rattle.wc_nestsolve.specs.Inner.Passes.{AreRounds, class_of}
+use Rattle.wc_nestsolve.specs.Inner.Tables.{AreFillable, AreTables, IsAmong, IsFilled, charge}
 use Rattle.wc_nestsolve.specs.Inner.Ways.{AreWays}
-use Rattle.wc_nestsolve.specs.Inner.Solvable.{IsSolvable}
 use Rattle.wc_nestsolve.proofs.CeilingLemmas.{part_le, room_below}
 use Rattle.wc_nestsolve.proofs.RoomLemmas.{sum_total}
 use Rattle.wc_nestsolve.proofs.RoundsLemmas.{class_fillable, class_from, class_into, class_is}

@@ -1,5 +1,5 @@
 -- Potentials that meet the lines of the steps so far meet those of one more loop's back steps once they are raised.
-use Rattle.std.proofs.Common.{◌≡◌, ℕ, ◌==◌, ◌+◌, ◌<◌, ◌≤◌, ◌⊎◌, inl, inr, ⊎_elim, ℤ, pos, ◌+ℤ◌, ◌-ℤ◌, ◌*ℤ◌, ◌≤ℤ◌, slice_get, slice_index, Option, Some, None, option_map, Bool, true, false, not, if◌then◌else◌, List, refl, sym, ap, ap₂, subst, ◌∙◌, arith}
+use Rattle.std.proofs.Common.{◌≡◌, ℕ, ◌+◌, ◌<◌, ◌≤◌, ◌⊎◌, inl, inr, ℤ, pos, ◌+ℤ◌, ◌-ℤ◌, ◌≤ℤ◌, slice_get, slice_index, Option, Some, None, option_map, Bool, true, false, if◌then◌else◌, List, refl, sym, ap, ap₂, subst, ◌∙◌, arith}
 use Rattle.std.proofs.lemmas.Bool.{cases_lt}
 use Rattle.std.proofs.lemmas.Int.{ints, clamps}
 use Rattle.std.specs.Int.{int_max}
@@ -7,13 +7,13 @@ use Rattle.wc_model.specs.declared.flow_system.System.{System}
 use Rattle.wc_model.specs.declared.flow_system.SystemLoop.{SystemLoop}
 use Rattle.wc_model.specs.declared.flow_system.SystemStep.{SystemStep}
 use Rattle.wc_model.specs.declared.graphs.Nest.{Nest}
-use Rattle.wc_model.specs.Flow.Systems.{is_marked, leads_to}
+use Rattle.wc_model.specs.Flow.Systems.{is_marked}
 use Rattle.wc_nestsolve.specs.declared.found.Found.{Found}
 use Rattle.wc_nestsolve.specs.Inner.Nested.{IsLoop, IsNested, IsStep, lies}
 use Rattle.wc_nestsolve.specs.Inner.Potentials.{Covers, IsMet, IsPotential, after_loop, plus, potential_ahead, raised_by, raised_to}
-use Rattle.wc_nestsolve.specs.Inner.Tables.{IsTable, found_at, reach, value_of_found, worth_of}
+use Rattle.wc_nestsolve.specs.Inner.Tables.{IsTable, found_at, reach, value_of_found}
 use Rattle.wc_nestsolve.specs.Inner.Weights.{surcharge, weight}
-use Rattle.wc_nestsolve.proofs.WeightLemmas.{test_same, weight_ahead, weight_back, weight_exit}
+use Rattle.wc_nestsolve.proofs.WeightLemmas.{test_same, weight_ahead, weight_back}
 
 raise_covers : (old b : Option ℤ) (f : Option Found) (from : ℤ) → Covers old b → Covers (raised_by old f from) b
 raise_covers old None f from covers = tt

@@ -1,14 +1,14 @@
 -- What nodes add to a value stays within their dearest steps times the rounds of the loops that they lie in.
-use Rattle.std.proofs.Common.{◌≡◌, ℕ, zero, suc, ◌==◌, ◌+◌, ◌*◌, ◌-◌, ◌<◌, ◌≤◌, ◌⊎◌, inl, inr, cond, List, [], ◌∷◌, length, slice_index, slice_get, Option, Some, None, Bool, true, false, if◌then◌else◌, refl, sym, ap, ap₂, subst, ◌∙◌, arith}
+use Rattle.std.proofs.Common.{◌≡◌, ℕ, zero, suc, ◌+◌, ◌*◌, ◌-◌, ◌<◌, ◌≤◌, ◌⊎◌, inl, inr, cond, List, [], ◌∷◌, length, slice_index, slice_get, Some, Bool, true, false, if◌then◌else◌, refl, ap, ap₂, ◌∙◌, arith}
 use Rattle.std.proofs.Math.Nat.{mul_comm, mul-le-mul_left}
-use Rattle.std.proofs.lemmas.Bool.{cases_eq, cases_lt}
+use Rattle.std.proofs.lemmas.Bool.{cases_eq}
 use Rattle.std.specs.List.{filter, fold, sum_by}
 use Rattle.wc_model.specs.declared.flow_system.System.{System}
 use Rattle.wc_model.specs.declared.flow_system.SystemLoop.{SystemLoop}
 use Rattle.wc_model.specs.declared.graphs.Nest.{Nest}
 use Rattle.wc_model.specs.Flow.Ceiling.{dearest, total}
 use Rattle.wc_nestsolve.specs.Inner.Nested.{IsLoop, IsNested, lies}
-use Rattle.wc_nestsolve.specs.Inner.Passes.{IsRoomy, bounds_of, factor, rounds_in, worth_in}
+use Rattle.wc_nestsolve.specs.Inner.Passes.{IsRoomy, bounds_of, rounds_in, worth_in}
 use Rattle.wc_nestsolve.specs.Inner.Tables.{charge}
 
 -- std's sum, and the ceiling's

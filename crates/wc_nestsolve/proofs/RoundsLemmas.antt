@@ -1,12 +1,12 @@
 -- The round of one loop more, from the innermost outwards.
-use Rattle.std.proofs.Common.{◌≡◌, ℕ, zero, suc, ◌==◌, ◌+◌, ◌*◌, ◌-◌, ◌<◌, ◌≤◌, ◌^◌, ◌⊎◌, inl, inr, ℤ, pos, ◌+ℤ◌, ◌*ℤ◌, List, [], ◌∷◌, map, take, length, set, slice_index, slice_get, get_or, Option, Some, None, Bool, true, false, if◌then◌else◌, refl, sym, ap, ap₂, subst, ◌∙◌, arith, lit<}
+use Rattle.std.proofs.Common.{◌≡◌, ℕ, zero, suc, ◌==◌, ◌+◌, ◌*◌, ◌<◌, ◌≤◌, ◌^◌, ◌⊎◌, inl, inr, pos, ◌+ℤ◌, ◌*ℤ◌, List, [], ◌∷◌, map, length, set, slice_index, slice_get, get_or, Option, Some, None, Bool, true, false, refl, sym, ap, subst, ◌∙◌, arith, lit<}
 use Rattle.std.proofs.Math.IntN.{*ℤ-zero, pos-*ℤ-pos}
-use Rattle.std.proofs.lemmas.Bool.{cases_eq, cases_lt}
+use Rattle.std.proofs.lemmas.Bool.{cases_eq}
 use Rattle.std.proofs.lemmas.Int.{ints}
 use Rattle.std.proofs.lemmas.List.{get_or-set_same, get_or-set_other, length-set, take_all}
-use Rattle.std.proofs.lemmas.Option.{get_or_from_slice_get, same_Some, slice_get-get_or, slice_get-map, slice_get_within}
+use Rattle.std.proofs.lemmas.Option.{get_or_from_slice_get, same_Some, slice_get-get_or, slice_get_within}
 use Rattle.std.specs.List.{filter, sum_by}
-use Rattle.wc_base.specs.Sums.{sum_placed, chosen}
+use Rattle.wc_base.specs.Sums.{chosen}
 use Rattle.wc_base.proofs.SumLemmas.{sum_add, sum_pick, sum_same, sum_zero}
 use Rattle.wc_model.specs.declared.flow_system.System.{System}
 use Rattle.wc_model.specs.declared.flow_system.SystemLoop.{SystemLoop}
@@ -15,10 +15,10 @@ use Rattle.wc_model.specs.declared.graphs.Nest.{Nest}
 use Rattle.wc_model.specs.Flow.Ceiling.{total}
 use Rattle.wc_model.specs.Flow.Systems.{IsSystemLoop, is_marked}
 use Rattle.wc_nestsolve.specs.declared.found.Found.{Found}
-use Rattle.wc_nestsolve.specs.Inner.Nested.{IsLoop, IsNested, IsStep, lies}
+use Rattle.wc_nestsolve.specs.Inner.Nested.{IsLoop, IsStep, lies}
 use Rattle.wc_nestsolve.specs.Inner.Orders.{IsDownOrder}
-use Rattle.wc_nestsolve.specs.Inner.Passes.{AreClasses, AreRounds, HasRound, IsRoomy, IsRoundsPass, bounds_of, class_of, numbers, worth_in}
-use Rattle.wc_nestsolve.specs.Inner.Tables.{AreFillable, AreTables, IsAmong, IsClear, IsDownward, IsFilled, IsTable, charge, found_at, value_of_found}
+use Rattle.wc_nestsolve.specs.Inner.Passes.{AreClasses, HasRound, IsRoomy, IsRoundsPass, bounds_of, class_of, numbers, worth_in}
+use Rattle.wc_nestsolve.specs.Inner.Tables.{AreFillable, IsAmong, IsClear, IsDownward, IsFilled, IsTable, charge, found_at, value_of_found}
 use Rattle.wc_nestsolve.specs.Inner.Weights.{surcharge}
 use Rattle.wc_nestsolve.specs.Inner.Solvable.{IsSolvable}
 use Rattle.wc_nestsolve.proofs.CeilingLemmas.{part_le, part_once, room_below}

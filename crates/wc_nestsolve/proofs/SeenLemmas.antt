@@ -1,11 +1,8 @@
 -- How often a way leaves a node, and how often the counts so far do.
-use Rattle.std.proofs.Common.{◌≡◌, ℕ, zero, suc, ◌==◌, ◌&&◌, ◌||◌, ◌+◌, ◌*◌, ◌<◌, ◌≤◌, ◌⊎◌, inl, inr, ℤ, pos, ◌+ℤ◌, ◌-ℤ◌, ◌*ℤ◌, ◌≤ℤ◌, List, [], ◌∷◌, length, slice_get, slice_index, Option, Some, None, Bool, true, false, not, if◌then◌else◌, refl, sym, ap, ap₂, subst, ◌∙◌, arith}
+use Rattle.std.proofs.Common.{◌≡◌, ℕ, zero, suc, ◌==◌, ◌&&◌, ◌||◌, ◌+◌, ◌*◌, ◌<◌, ℤ, pos, ◌+ℤ◌, ◌≤ℤ◌, List, [], ◌∷◌, slice_get, Option, Some, Bool, true, false, not, refl, sym, ap, ap₂, subst, ◌∙◌, arith}
 use Rattle.std.proofs.lemmas.Option.{same_Some}
-use Rattle.std.proofs.Math.IntN.{*ℤ-zero, pos-*ℤ-pos}
-use Rattle.std.proofs.lemmas.Bool.{cases_eq, cases_lt}
 use Rattle.std.proofs.lemmas.Int.{ints}
-use Rattle.wc_base.specs.Sums.{sum_placed, sum_in, chosen}
-use Rattle.wc_base.proofs.Products.{monotone}
+use Rattle.wc_base.specs.Sums.{sum_in, chosen}
 use Rattle.wc_base.proofs.SumLemmas.{sum_add, sum_same}
 use Rattle.wc_model.specs.declared.flow_system.System.{System}
 use Rattle.wc_model.specs.declared.flow_system.SystemLoop.{SystemLoop}
@@ -15,7 +12,7 @@ use Rattle.wc_model.specs.Flow.Counts.{entered, into, out_of}
 use Rattle.wc_model.specs.Flow.Places.{IsOnce, is_listed}
 use Rattle.wc_model.specs.Flow.Systems.{IsSystem, IsSystemLoop, is_marked, leads_to}
 use Rattle.wc_nestsolve.specs.Inner.Flows.{IsFlow}
-use Rattle.wc_nestsolve.specs.Inner.Nested.{IsLoop, IsNested, IsStep, lies}
+use Rattle.wc_nestsolve.specs.Inner.Nested.{IsLoop, IsNested, IsStep}
 use Rattle.wc_nestsolve.specs.Inner.Passes.{factor, rounds_in}
 use Rattle.wc_nestsolve.specs.Inner.Tables.{IsDownward}
 use Rattle.wc_nestsolve.specs.Inner.Trails.{IsTrail, ends, goes, given_at, tally}

@@ -1,14 +1,13 @@
 -- The lists of a nest fit its graph.
 use Rattle.std.proofs.Common.{ℕ, zero, suc, ◌≡◌, ◌≢◌, ◌<◌, ◌≤◌, List, [], ◌∷◌, map, Option, None, Some, length, get_or, refl, sym, ap, subst, ◌∙◌, arith}
-use Rattle.std.specs.Prelude.{All, IfSome}
-use Rattle.std.specs.List.{AllPairs, AllZip, Contains, slice_get}
+use Rattle.std.specs.Prelude.{IfSome}
+use Rattle.std.specs.List.{AllZip, slice_get}
 use Rattle.std.proofs.lemmas.List.{length-map}
 use Rattle.std.proofs.lemmas.Option.{none-some, same_Some, slice_get_within, slice_get-get_or}
 use Rattle.wc_model.specs.declared.graphs.Graph.{Graph}
 use Rattle.wc_model.specs.declared.graphs.Head.{Head}
 use Rattle.wc_model.specs.declared.graphs.Nest.{Nest}
-use Rattle.wc_model.specs.declared.graphs.Step.{Step}
-use Rattle.wc_model.specs.Flow.Nest.{IsBack, IsInside, IsNest}
+use Rattle.wc_model.specs.Flow.Nest.{IsInside, IsNest}
 use Rattle.wc_model.specs.Flow.Systems.{IsNestShape}
 use Rattle.wc_model.specs.Program.Graphs.{IsGraph}
 use Rattle.wc_model.proofs.Places.{get_from_contains}
@@ -16,7 +15,7 @@ use Rattle.wc_nest.proofs.ListLemmas.{pairs_from}
 use Rattle.wc_nest.proofs.NestingLemmas.{distinct_fits}
 use Rattle.wc_nestsolve.proofs.NestedLemmas.{node_known, one_place, parent_known}
 
-zip_length : {A B : Type 0} (R : A → B → Type 0) (xs : List A) (ys : List B) → AllZip R xs ys → length ys ≡ length xs
+pub zip_length : {A B : Type 0} (R : A → B → Type 0) (xs : List A) (ys : List B) → AllZip R xs ys → length ys ≡ length xs
 zip_length R [] [] all = refl
 zip_length R [] (y ∷ ys) all = absurd all
 zip_length R (x ∷ xs) [] all = absurd all
@@ -31,8 +30,8 @@ module _ (graph : Graph) (is_graph : IsGraph graph) (nest : Nest) (of : IsNest g
   few_heads : length nest.heads ≤ length graph.nodes
   few_heads =
       let fits : length (map (λ (h : Head). h.node) nest.heads) ≤ length graph.nodes = distinct_fits (map (λ (h : Head). h.node) nest.heads) (length graph.nodes)
-          (pairs_from (λ p q. p ≢ q) (map (λ (h : Head). h.node) nest.heads) (λ i j p q less at_p at_q. apart i j p q less at_p at_q))
-          (λ p among. let placed = get_from_contains (map (λ (h : Head). h.node) nest.heads) p among in low placed.0 p placed.1) in
+      (pairs_from (λ p q. p ≢ q) (map (λ (h : Head). h.node) nest.heads) (λ i j p q less at_p at_q. apart i j p q less at_p at_q))
+      (λ p among. let placed = get_from_contains (map (λ (h : Head). h.node) nest.heads) p among in low placed.0 p placed.1) in
       omega (arith, fits, length-map nest.heads (λ (h : Head). h.node))
     where
       apart : (i j p q : ℕ) → i < j → slice_get (map (λ h. h.node) nest.heads) i ≡ Some p → slice_get (map (λ h. h.node) nest.heads) j ≡ Some q → p ≡ q → ⊥

@@ -1,7 +1,7 @@
 -- The system of a graph and its nest has what the passes need.
-use Rattle.std.proofs.Common.{ℕ, zero, suc, ◌≡◌, ◌+◌, ◌<◌, ◌≤◌, ◌^◌, ◌==◌, ◌||◌, ◌&&◌, Bool, true, false, not, List, [], ◌∷◌, Option, None, Some, length, get_or, if◌then◌else◌, refl, sym, ap, ap₂, subst, ◌∙◌, arith}
-use Rattle.std.specs.Prelude.{All, IfSome}
-use Rattle.std.specs.List.{AllPairs, Contains, slice_get}
+use Rattle.std.proofs.Common.{ℕ, zero, suc, ◌≡◌, ◌+◌, ◌<◌, ◌≤◌, ◌^◌, ◌||◌, ◌&&◌, Bool, true, false, not, List, [], ◌∷◌, Option, None, Some, length, get_or, if◌then◌else◌, refl, sym, ap, ap₂, subst, ◌∙◌, arith}
+use Rattle.std.specs.Prelude.{IfSome}
+use Rattle.std.specs.List.{slice_get}
 use Rattle.std.proofs.lemmas.Option.{none-some, same_Some, slice_get_within, slice_get-get_or}
 use Rattle.wc_model.specs.declared.flow_system.System.{System}
 use Rattle.wc_model.specs.declared.flow_system.SystemLoop.{SystemLoop}
@@ -11,11 +11,11 @@ use Rattle.wc_model.specs.declared.graphs.Head.{Head}
 use Rattle.wc_model.specs.declared.graphs.Nest.{Nest}
 use Rattle.wc_model.specs.declared.graphs.Step.{Step}
 use Rattle.wc_model.specs.Flow.Ceiling.{ceiling_of}
-use Rattle.wc_model.specs.Flow.Ends.{step_ends, system_ends}
+use Rattle.wc_model.specs.Flow.Ends.{system_ends}
 use Rattle.wc_model.specs.Flow.Nest.{IsNest}
-use Rattle.wc_model.specs.Flow.Places.{is_listed, places_from, places_of}
+use Rattle.wc_model.specs.Flow.Places.{is_listed, places_from}
 use Rattle.wc_model.specs.Flow.Systems.{IsNestShape, IsSystem, is_back, is_entry, is_marked, leads_to, system_loop, system_loops, system_steps}
-use Rattle.wc_model.specs.Flow.Walks.{Joins, LeadsOn}
+use Rattle.wc_model.specs.Flow.Walks.{Joins}
 use Rattle.wc_model.specs.Program.Graphs.{IsGraph, LeadsIn}
 use Rattle.wc_model.specs.Program.Reaching.{Ends, Reaches, exits, onward}
 use Rattle.wc_model.proofs.Places.{contains_from_get, get_from_contains}

@@ -1,7 +1,6 @@
 -- There is an order of all nodes by the steps ahead: node by node, each after those that its steps lead to.
 use Rattle.std.proofs.Common.{◌≡◌, ◌≢◌, ℕ, zero, suc, ◌==◌, ◌||◌, ◌+◌, ◌<◌, ◌≤◌, ◌++◌, ◌⊎◌, inl, inr, List, [], ◌∷◌, length, slice_get, Option, None, Some, Bool, true, false, refl, sym, ap, subst, ◌∙◌, arith}
 use Rattle.std.specs.Prelude.{IfSome}
-use Rattle.std.specs.List.{Contains}
 use Rattle.std.proofs.lemmas.Bool.{cases_eq, cases_lt}
 use Rattle.std.proofs.lemmas.List.{length-append}
 use Rattle.std.proofs.lemmas.Option.{none-some, same_Some, slice_get_within}
@@ -11,7 +10,7 @@ use Rattle.wc_model.specs.declared.graphs.Nest.{Nest}
 use Rattle.wc_model.specs.Flow.Places.{IsOnce, is_listed}
 use Rattle.wc_model.specs.Flow.Systems.{is_marked}
 use Rattle.wc_model.specs.Flow.Walks.{LeadsOn}
-use Rattle.wc_model.proofs.Places.{get_from_contains, get_left, get_push, get_push_cases, get_within}
+use Rattle.wc_model.proofs.Places.{get_from_contains, get_left, get_push_cases, get_within}
 use Rattle.wc_nest.proofs.FlagLemmas.{not_both}
 use Rattle.wc_nest.proofs.ListLemmas.{pairs_from}
 use Rattle.wc_nest.proofs.NestingLemmas.{distinct_fits}
@@ -21,7 +20,7 @@ use Rattle.wc_nestsolve.specs.Inner.Orders.{IsDownOrder}
 use Rattle.wc_nestsolve.specs.Inner.Solvable.{IsSolvable, LeadsAhead}
 use Rattle.wc_nestsolve.specs.Inner.Tables.{IsDownward}
 use Rattle.wc_nestsolve.proofs.ListedSums.{get_all}
-use Rattle.wc_nestsolve.proofs.WeightLemmas.{same_by, test_apart, test_same}
+use Rattle.wc_nestsolve.proofs.WeightLemmas.{test_apart, test_same}
 
 -- Listed numbers and their places.
 listed_at : (xs : List ℕ) (i p : ℕ) → slice_get xs i ≡ Some p → is_listed p xs ≡ true

@@ -1,15 +1,15 @@
 -- Tables of the best ways: one more node, equal tables, changed surcharges.
-use Rattle.std.proofs.Common.{◌≡◌, ℕ, zero, suc, ◌==◌, ◌+◌, ◌<◌, ◌≤◌, ◌⊎◌, inl, inr, slice_get, slice_index, get_or, set, length, Option, Some, None, option_map, Bool, true, false, if◌then◌else◌, List, refl, sym, ap, ap₂, subst, ◌∙◌, arith}
+use Rattle.std.proofs.Common.{◌≡◌, ℕ, zero, suc, ◌+◌, ◌<◌, ◌≤◌, ◌⊎◌, inl, inr, slice_get, slice_index, set, length, Option, Some, None, option_map, Bool, true, false, List, refl, sym, ap, subst, ◌∙◌, arith}
 use Rattle.std.proofs.lemmas.Option.{same_Some}
 use Rattle.std.proofs.lemmas.Bool.{cases_lt, cases_eq}
 use Rattle.std.proofs.lemmas.List.{get_or-set_same, get_or-set_other}
 use Rattle.wc_model.specs.declared.flow_system.System.{System}
 use Rattle.wc_model.specs.declared.flow_system.SystemStep.{SystemStep}
 use Rattle.wc_model.specs.declared.graphs.Nest.{Nest}
-use Rattle.wc_model.specs.Flow.Systems.{is_marked, leads_to}
+use Rattle.wc_model.specs.Flow.Systems.{is_marked}
 use Rattle.wc_nestsolve.specs.declared.found.Found.{Found}
 use Rattle.wc_nestsolve.specs.Inner.Nested.{IsStep}
-use Rattle.wc_nestsolve.specs.Inner.Tables.{IsAmong, IsAttained, IsBestOf, IsDownward, IsTable, found_at, reach, reach_node, value_of_found, worth_of}
+use Rattle.wc_nestsolve.specs.Inner.Tables.{IsAmong, IsAttained, IsBestOf, IsDownward, IsTable, found_at, reach, value_of_found, worth_of}
 
 -- what a step is worth depends on what is found where it leads, and on that node's surcharge
 pub reach_same : (goal : Option ℕ) (back : Bool) (cost : ℕ) (o : Option ℕ) (extra more : List ℕ) (best other : List (Option Found))

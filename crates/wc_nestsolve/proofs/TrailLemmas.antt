@@ -1,25 +1,23 @@
 -- What a way to a goal adds to the counts.
-use Rattle.std.proofs.Common.{◌≡◌, ℕ, zero, suc, ◌==◌, ◌&&◌, ◌+◌, ◌<◌, ◌≤◌, ◌⊎◌, inl, inr, ℤ, pos, ◌+ℤ◌, ◌-ℤ◌, ◌*ℤ◌, ◌≤ℤ◌, List, [], ◌∷◌, length, slice_get, slice_index, Option, Some, None, option_map, Bool, true, false, not, if◌then◌else◌, refl, sym, ap, ap₂, subst, ◌∙◌, arith}
+use Rattle.std.proofs.Common.{◌≡◌, ℕ, zero, suc, ◌==◌, ◌&&◌, ◌+◌, ◌<◌, ◌≤◌, ℤ, pos, ◌+ℤ◌, ◌-ℤ◌, ◌*ℤ◌, ◌≤ℤ◌, List, [], ◌∷◌, length, slice_get, slice_index, Option, Some, None, option_map, Bool, true, false, not, if◌then◌else◌, refl, sym, ap, ap₂, subst, ◌∙◌, arith}
 use Rattle.std.proofs.lemmas.Option.{same_Some}
-use Rattle.std.proofs.Math.IntN.{*ℤ-zero, zero-*ℤ}
-use Rattle.std.proofs.lemmas.Bool.{cases_lt, cases_eq}
+use Rattle.std.proofs.Math.IntN.{*ℤ-zero}
 use Rattle.std.proofs.lemmas.Int.{ints}
 use Rattle.std.specs.Prelude.{IfSome}
-use Rattle.wc_base.specs.Sums.{sum_placed, sum_in, chosen}
+use Rattle.wc_base.specs.Sums.{sum_in, chosen}
 use Rattle.wc_base.proofs.Products.{monotone, spread_left, times_one}
 use Rattle.wc_base.proofs.SumLemmas.{sum_same, sum_zero, sum_add, sum_pick}
 use Rattle.wc_model.specs.declared.flow_system.System.{System}
 use Rattle.wc_model.specs.declared.flow_system.SystemLoop.{SystemLoop}
 use Rattle.wc_model.specs.declared.flow_system.SystemStep.{SystemStep}
 use Rattle.wc_model.specs.declared.graphs.Nest.{Nest}
-use Rattle.wc_model.specs.Flow.Counts.{into, out_of}
 use Rattle.wc_model.specs.Flow.Places.{is_listed}
 use Rattle.wc_model.specs.Flow.SystemWalks.{visits}
 use Rattle.wc_model.specs.Flow.Systems.{ArePlaces, IsSystem, IsSystemLoop, is_marked, leads_to}
 use Rattle.wc_nestsolve.specs.declared.found.Found.{Found}
 use Rattle.wc_nestsolve.specs.Inner.Flows.{IsFlow, IsRoundOf, linear}
 use Rattle.wc_nestsolve.specs.Inner.Nested.{IsLoop, IsNested, IsStep, lies}
-use Rattle.wc_nestsolve.specs.Inner.Tables.{IsAttained, IsDownward, IsTable, found_at, reach, worth_of}
+use Rattle.wc_nestsolve.specs.Inner.Tables.{IsAttained, IsDownward, IsTable, found_at, reach}
 use Rattle.wc_nestsolve.specs.Inner.Trails.{IsTrail, ends, goes, given_at, tally, begins_with, goes_to, walk_from}
 use Rattle.wc_nestsolve.specs.Inner.Weights.{surcharge, weight}
 use Rattle.wc_nestsolve.proofs.ListedSums.{chosen_linear, get_all, sum_listed, times_chosen}

@@ -1,18 +1,17 @@
 -- The weights of the steps ahead and of the back steps.
-use Rattle.std.proofs.Common.{◌≡◌, ℕ, ◌==◌, ◌&&◌, ℤ, pos, ◌+ℤ◌, ◌-ℤ◌, ◌*ℤ◌, slice_get, Option, Some, None, Bool, true, false, not, refl, sym, ap, ap₂, subst, ◌∙◌, arith}
+use Rattle.std.proofs.Common.{◌≡◌, ℕ, ◌==◌, ◌&&◌, ℤ, pos, ◌+ℤ◌, ◌-ℤ◌, ◌*ℤ◌, slice_get, Some, None, Bool, true, false, not, refl, ap, ap₂, ◌∙◌, arith}
 use Rattle.std.proofs.lemmas.Bool.Decides.{nat_tests}
 use Rattle.std.proofs.lemmas.Int.{ints}
-use Rattle.wc_base.specs.Sums.{sum_placed, chosen}
+use Rattle.wc_base.specs.Sums.{chosen}
 use Rattle.wc_base.proofs.SumLemmas.{sum_same, sum_zero, sum_pick}
 use Rattle.wc_model.specs.declared.flow_system.System.{System}
 use Rattle.wc_model.specs.declared.flow_system.SystemLoop.{SystemLoop}
 use Rattle.wc_model.specs.declared.flow_system.SystemStep.{SystemStep}
 use Rattle.wc_model.specs.declared.graphs.Nest.{Nest}
 use Rattle.wc_model.specs.Flow.Certificates.{back_price, entry_price}
-use Rattle.wc_model.specs.Flow.Counts.{cycles}
 use Rattle.wc_model.specs.Flow.Places.{is_listed}
 use Rattle.wc_model.specs.Flow.Systems.{is_marked, leads_to}
-use Rattle.wc_nestsolve.specs.Inner.Nested.{IsLoop, IsNested, IsStep, lies}
+use Rattle.wc_nestsolve.specs.Inner.Nested.{IsLoop, IsNested, IsStep}
 use Rattle.wc_nestsolve.specs.Inner.Weights.{surcharge, weight}
 
 and_false : (b : Bool) → (b && false) ≡ false

@@ -1,6 +1,6 @@
 -- A law of all systems of a graph and its nest, with stated limits or without, whose ceiling is below 2^100: the line
 -- of each step is met by potentials and prices of the loops alone.
-use Rattle.std.specs.Prelude.{ℕ, ◌≡◌, ◌<◌, ◌^◌, ℤ, pos}
+use Rattle.std.specs.Prelude.{ℕ, ◌≡◌, ◌<◌, ◌^◌, pos}
 use Rattle.wc_model.specs.declared.flow_system.System.{System}
 use Rattle.wc_model.specs.declared.graphs.Graph.{Graph}
 use Rattle.wc_model.specs.declared.graphs.Nest.{Nest}

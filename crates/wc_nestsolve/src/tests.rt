@@ -150,9 +150,7 @@ fn optimum(
 
 // Bounds of the loop round the start, of the last one and of the one inside, then the costs of the steps.
 #[test]
-fn each_loop_goes_its_best_round_as_often_as_its_bound_allows(
-    rt: HostRuntime,
-) -> Result<(), Fail> {
+fn each_loop_goes_its_best_round_as_often_as_its_bound_allows(rt: HostRuntime) -> Result<(), Fail> {
     let most = u32::MAX;
     let rows: [([u32; 3], [u64; 10], i128); 8] = [
         // three times 1 + 1 + 3 + 1, two steps back, then 1 + 4 + 3 + 1
@@ -172,18 +170,7 @@ fn each_loop_goes_its_best_round_as_often_as_its_bound_allows(
         // the ceiling is 2^100 - 1
         (
             [most, 0, most],
-            [
-                1,
-                1,
-                1,
-                (1 << 36) - 1,
-                1,
-                1,
-                1,
-                18446744060824649726,
-                0,
-                1,
-            ],
+            [1, 1, 1, (1 << 36) - 1, 1, 1, 1, 18446744060824649726, 0, 1],
             1267650599933081496325940314111,
         ),
     ];

@@ -1,13 +1,13 @@
 -- Potentials of nodes, of which some may still be missing.
-use Rattle.std.specs.Prelude.{ℕ, ◌≡◌, ◌<◌, Bool, true, false, if◌then◌else◌, ℤ, pos, ◌+ℤ◌, ◌-ℤ◌, ◌≤ℤ◌, Option, None, Some, List, slice_index_or}
+use Rattle.std.specs.Prelude.{ℕ, ◌≡◌, ◌<◌, Bool, true, false, ℤ, pos, ◌+ℤ◌, ◌-ℤ◌, ◌≤ℤ◌, Option, None, Some}
 use Rattle.std.specs.Int.{int_max}
 use Rattle.wc_model.specs.declared.flow_system.System.{System}
 use Rattle.wc_model.specs.declared.flow_system.SystemLoop.{SystemLoop}
 use Rattle.wc_model.specs.declared.flow_system.SystemStep.{SystemStep}
 use Rattle.wc_model.specs.declared.graphs.Nest.{Nest}
-use Rattle.wc_model.specs.Flow.Systems.{is_marked, leads_to}
+use Rattle.wc_model.specs.Flow.Systems.{is_marked}
 use Rattle.wc_nestsolve.specs.declared.found.Found.{Found}
-use Rattle.wc_nestsolve.specs.Inner.Nested.{IsLoop, IsStep, lies}
+use Rattle.wc_nestsolve.specs.Inner.Nested.{IsLoop, IsStep}
 use Rattle.wc_nestsolve.specs.Inner.Weights.{weight}
 
 -- where `b` is there, `a` is too and is at least as great

@@ -5,9 +5,7 @@ use Rattle.wc_model.specs.declared.flow_system.System.{System}
 use Rattle.wc_model.specs.declared.flow_system.SystemStep.{SystemStep}
 use Rattle.wc_model.specs.declared.graphs.Nest.{Nest}
 use Rattle.wc_model.specs.Flow.Ceiling.{dearest}
-use Rattle.wc_model.specs.Flow.Ends.{system_ends}
 use Rattle.wc_model.specs.Flow.Systems.{IsSystem, is_marked, leads_to}
-use Rattle.wc_model.specs.Flow.Walks.{AreStarts}
 use Rattle.wc_nestsolve.specs.declared.found.Found.{Found}
 use Rattle.wc_nestsolve.specs.Inner.Nested.{IsStep}
 

@@ -1,4 +1,4 @@
-use Rattle.std.proofs.Common.{◌≡◌, ◌<◌, ◌+◌, length, Option, Some, None, ℕ}
+use Rattle.std.proofs.Common.{◌<◌, length}
 use Rattle.std.specs.Prelude.{IfSome}
 use Rattle.wc_model.specs.Flow.Ceiling.{loops_round}
 use Rattle.wc_nestsolve.specs.Inner.Passes.{IsJoining, loops_from, rank_of}

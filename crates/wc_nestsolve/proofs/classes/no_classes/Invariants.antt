@@ -1,4 +1,4 @@
-use Rattle.std.proofs.Common.{◌≡◌, [], List, ℕ, replicate}
+use Rattle.std.proofs.Common.{◌≡◌, [], replicate}
 use Rattle.wc_nestsolve.proofs.classes.no_classes.Given as goal
 
 abbrev pub invariant-loop-loop : goal.invariant-loop-loop

@@ -1,4 +1,4 @@
-use Rattle.std.proofs.Common.{◌≡◌, ◌-◌, ◌+◌, ◌<◌, ◌++◌, ◌∷◌, [], Option, None, Some, sym, ap, subst, ◌∙◌, refl, arith, rules}
+use Rattle.std.proofs.Common.{◌-◌, ◌+◌, ◌<◌, ◌++◌, Some, sym, ap, subst, ◌∙◌, rules}
 use Rattle.std.specs.Prelude.{IfSome}
 use Rattle.wc_nestsolve.specs.Inner.Tables.{found_at}
 use Rattle.wc_nestsolve.specs.Inner.Trails.{walk_from}

@@ -1,4 +1,4 @@
-use Rattle.std.proofs.Common.{rules, ◌≡◌, ◌+◌, ◌*◌, ◌<◌, ◌^◌, ℕ, All, length, slice_index, sym, ap, subst, ◌∙◌, arith, lit<}
+use Rattle.std.proofs.Common.{◌≡◌, ◌*◌, ◌<◌, ◌^◌, All, length, slice_index, sym, ap, subst, ◌∙◌, arith, lit<}
 use Rattle.std.specs.List.{sum_by}
 use Rattle.wc_model.specs.Flow.Places.{IsOnce}
 use Rattle.wc_nestsolve.specs.Inner.Adding.{entered_times}

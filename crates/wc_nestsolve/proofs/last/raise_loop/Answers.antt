@@ -1,4 +1,4 @@
-use Rattle.std.proofs.Common.{rules, ◌≡◌, ◌^◌, ◌≤ℤ◌, ◌-ℤ◌, ℤ, pos, neg_ℤ, slice_index, None, sym, ap, subst, ◌∙◌, SFits}
+use Rattle.std.proofs.Common.{rules, ◌≡◌, ◌^◌, ◌≤ℤ◌, ◌-ℤ◌, pos, neg_ℤ, slice_index, sym, ap, subst, ◌∙◌, SFits}
 use Rattle.std.proofs.lemmas.Int.{to_z-of_z}
 use mir.Syntax.{w128}
 use Rattle.wc_nestsolve.specs.Inner.Raising.{AreRaisable}

@@ -1,4 +1,4 @@
-use Rattle.std.proofs.Common.{◌≡◌, ◌+◌, ◌<◌, length, sym, subst, arith}
+use Rattle.std.proofs.Common.{◌+◌, sym, subst, arith}
 use Rattle.wc_nestsolve.specs.Inner.LastPass.{AreCounts, IsFilledFor}
 use Rattle.wc_nestsolve.proofs.AddingLemmas.{rounds_skipped}
 use Rattle.wc_nestsolve.proofs.PassLemmas.{turn_fillable, turn_table}
@@ -29,7 +29,7 @@ returns-clause-turn c =
     let old = c.requires.some.1 in
     let table = turn_table _ _ _ c.requires.ways _ _ c.requires.rounds _ _ c.loop_at.ensures _ _ c.requires.table.tables c.requires.table.counted _ c.class_at-class.ensures c.fill.ensures in
     let counts : AreCounts c.args.system.now c.args.nest.now c.args.v.now value (c.args.place + 1) c.if-v-place-gt0.x.items = elim c.if-v-place-gt0.branch [
-      then-v-place-gt0+in_ok-add_rounds w ↦ subst (λ xs. AreCounts c.args.system.now c.args.nest.now c.args.v.now value (c.args.place + 1) xs.items) (sym w.x-is) (w.in_ok-add_rounds.ensures value old.counts)
+      | then-v-place-gt0+in_ok-add_rounds w ↦ subst (λ xs. AreCounts c.args.system.now c.args.nest.now c.args.v.now value (c.args.place + 1) xs.items) (sym w.x-is) (w.in_ok-add_rounds.ensures value old.counts)
       | else-v-place-gt0 w ↦ subst (λ xs. AreCounts c.args.system.now c.args.nest.now c.args.v.now value (c.args.place + 1) xs.items) (sym w.x-is)
           (rounds_skipped _ _ _ c.requires.ways _ _ _ table value _ old.counts (omega (arith, w.if-v-place-gt0.false)))
     ] in

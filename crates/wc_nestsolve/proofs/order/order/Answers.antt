@@ -1,7 +1,7 @@
-use Rattle.std.proofs.Common.{◌≡◌, refl, sym, ap, subst, ◌∙◌, rules}
+use Rattle.std.proofs.Common.{◌≡◌, sym, subst, rules}
 use Rattle.wc_model.specs.declared.walks.search.Order.TheVariants.{Cycle, Nodes}
 use Rattle.wc_model.specs.Flow.Ends.{system_ends}
-use Rattle.wc_model.specs.Flow.Walks.{AreSteps, IsOrder, IsSearched, Joins}
+use Rattle.wc_model.specs.Flow.Walks.{AreSteps, IsSearched, Joins}
 use Rattle.wc_nestsolve.specs.Inner.Orders.{loosened}
 use Rattle.wc_nestsolve.proofs.OrderLemmas.{list_steps, no_cycle, order_is}
 use Rattle.wc_nestsolve.proofs.order.order.Goals as goal

@@ -1,5 +1,5 @@
-use Rattle.std.proofs.Common.{◌≡◌, ◌+◌, ◌*◌, ◌<◌, ◌^◌, Some, length, refl, sym, ap, subst, ◌∙◌, arith, lit<}
-use Rattle.wc_nestsolve.specs.Inner.Tables.{AreFillable, IsFilled, value_of_found, found_at}
+use Rattle.std.proofs.Common.{◌≡◌, ◌*◌, ◌<◌, ◌^◌, length, refl, sym, ap, subst, ◌∙◌, arith, lit<}
+use Rattle.wc_nestsolve.specs.Inner.Tables.{AreFillable, value_of_found, found_at}
 use Rattle.wc_nestsolve.proofs.RoundsLemmas.{head_known, round_done, round_fillable, round_filled, surcharge_low}
 use Rattle.wc_nestsolve.proofs.rounds.round.Goals as goal
 

@@ -1,4 +1,4 @@
-use Rattle.std.proofs.Common.{rules, ◌≡◌, ◌+◌, ◌<◌, All, None, Some, length, map, replicate, slice_index, pos, sym, ap, subst, ◌∙◌, arith}
+use Rattle.std.proofs.Common.{rules, ◌≡◌, ◌<◌, All, None, Some, length, map, replicate, slice_index, pos, sym, ap, subst, ◌∙◌}
 use Rattle.std.proofs.lemmas.List.{length-replicate}
 use Rattle.wc_model.specs.Flow.Places.{IsOnce}
 use Rattle.wc_nestsolve.specs.Inner.Adding.{AreWalkable, IsAdded}
