@@ -1,0 +1,14 @@
+pub mod Adding
+pub mod Flows
+pub mod LastPass
+pub mod Made
+pub mod Nested
+pub mod Orders
+pub mod Passes
+pub mod Potentials
+pub mod Raising
+pub mod Solvable
+pub mod Tables
+pub mod Trails
+pub mod Ways
+pub mod Weights

@@ -1,0 +1,63 @@
+ghost use Rattle.std.specs.Prelude.{◌≡◌, ◌<◌, [], IfOk, length, replicate};
+ghost use Rattle.wc_nestsolve.specs.Inner.Orders.{IsDownOrder};
+ghost use Rattle.wc_nestsolve.specs.Inner.Passes.{AreClasses, JoinsLoops, with_node};
+ghost use Rattle.wc_nestsolve.specs.Inner.Solvable.{IsSolvable};
+
+use std::alloc::{AllocError, Global};
+use wc_model::{Nest, System, Table};
+
+fn no_classes(alloc: Global, count: usize) -> Result<Vec<Table<u32>>, AllocError>
+    ensures { IfOk result (λ v. v.items ≡ replicate count []) }
+{
+    let mut classes = Vec::with_capacity(alloc, count)?;
+    for _loop in 0..count {
+        classes.push(Table::new(Vec::new(alloc)))?;
+    }
+    Ok(classes)
+}
+
+fn push_to(classes: &mut Vec<Table<u32>>, place: usize, node: u32) -> Result<(), AllocError>
+    requires { place < length classes.old.items }
+    ensures { IfOk result (λ _. classes.new.items ≡ with_node classes.old.items place node) }
+{
+    classes[place].push(node)?;
+    Ok(())
+}
+
+// A node joins the classes of the loops round it.
+fn join(
+    system: &System,
+    nest: &Nest,
+    node: u32,
+    classes: &mut Vec<Table<u32>>,
+) -> Result<(), AllocError>
+    requires solvable { IsSolvable nest.now system.now }
+    requires known { node < system.now.nodes }
+    requires counted { length classes.old.items ≡ length nest.now.heads }
+    ensures { IfOk result (λ _. JoinsLoops nest.now node classes.old.items classes.new.items) }
+{
+    let mut at = nest.inside.items()[node as usize];
+    while let Some(place) = at {
+        push_to(classes, place as usize, node)?;
+        at = nest.heads.items()[place as usize].parent;
+    }
+    Ok(())
+}
+
+/// Per loop, the nodes of an order that lie in its class.
+pub fn classes(
+    alloc: Global,
+    system: &System,
+    nest: &Nest,
+    order: &[u32],
+) -> Result<Vec<Table<u32>>, AllocError>
+    requires solvable { IsSolvable nest.now system.now }
+    requires order { IsDownOrder system.now nest.now order.now }
+    ensures { IfOk result (λ v. AreClasses nest.now order.now v.items) }
+{
+    let mut classes = no_classes(alloc, nest.heads.items().len())?;
+    for node in order {
+        join(system, nest, *node, &mut classes)?;
+    }
+    Ok(classes)
+}
