@@ -12,8 +12,7 @@ use Rattle.wc_model.specs.Cache.Ages.{Sets, SolvesMay, SolvesMust}
 use Rattle.wc_model.specs.Cache.Costs.{fetch_upper, upper_cycles}
 use Rattle.wc_model.specs.Cache.Lru.{Held, IsAllowed, cache_fetched, is_hit}
 use Rattle.wc_model.specs.Cache.Timing.{IsGraphWalk, cached_cycles, cycles_from, fetch_cycles, pc_at, timed_step, uncached_cycles}
-use Rattle.wc_model.specs.Program.Graphs.{IsGraph}
-use Rattle.wc_category.specs.Sound.{AreJustified, AreJustifiedIn, AtVisits, ComesTrue, IsAsTold, category_at, has_own}
+use Rattle.wc_category.specs.Sound.{AreJustified, AreJustifiedIn, AtVisits, ComesTrue, HasSources, IsAsTold, category_at, has_own}
 use Rattle.wc_category.proofs.VisitLemmas.{must_and_may_are_sound, source_within}
 
 -- A category that is justified comes true.
@@ -26,12 +25,12 @@ comes_true graph cache categories are p hit within told = by (category_at catego
     by Unclassified is = tt
     by NoCache is = absurd (are.cached p within is)
 
-each_true : (graph : Graph) (cache : Cache) (categories : List Category) → IsGraph graph → AreJustifiedIn graph cache categories → (at : Option ℕ) (held : Held) (walk : List Step) → IsGraphWalk graph.steps at walk → AtVisits graph cache (IsAsTold graph cache) held walk → AtVisits graph cache (λ p hit. ComesTrue (category_at categories p) hit) held walk
+each_true : (graph : Graph) (cache : Cache) (categories : List Category) → HasSources graph → AreJustifiedIn graph cache categories → (at : Option ℕ) (held : Held) (walk : List Step) → IsGraphWalk graph.steps at walk → AtVisits graph cache (IsAsTold graph cache) held walk → AtVisits graph cache (λ p hit. ComesTrue (category_at categories p) hit) held walk
 each_true graph cache categories is are at held [] walks told = tt
 each_true graph cache categories is are at held (s ∷ walk) walks told =
     (comes_true graph cache categories are s.source (is_hit cache (pc_at graph s.source) held) (source_within graph is s walks.0) told.0, each_true graph cache categories is are s.target (cache_fetched cache (pc_at graph s.source) held) walk walks.2 told.1)
 
-pub categories_are_sound : (graph : Graph) (cache : Cache) (categories : List Category) (held : Held) (walk : List Step) → IsGraph graph → AreJustifiedIn graph cache categories → IsAllowed (Some cache) held → IsGraphWalk graph.steps (Some graph.start) walk → AtVisits graph cache (λ p hit. ComesTrue (category_at categories p) hit) held walk
+pub categories_are_sound : (graph : Graph) (cache : Cache) (categories : List Category) (held : Held) (walk : List Step) → HasSources graph → AreJustifiedIn graph cache categories → IsAllowed (Some cache) held → IsGraphWalk graph.steps (Some graph.start) walk → AtVisits graph cache (λ p hit. ComesTrue (category_at categories p) hit) held walk
 categories_are_sound graph cache categories held walk is are allowed walks = each_true graph cache categories is are (Some graph.start) held walk walks (must_and_may_are_sound graph cache held walk is allowed walks)
 
 -- Costs.
@@ -61,6 +60,6 @@ uncached_bound graph c categories (s ∷ walk) = more (timed_step graph c s).bas
     more : (base fetch : ℕ) {m n : ℕ} → m ≤ n → base + m ≤ base + fetch + n
     more base fetch later = omega arith
 
-pub upper_costs_bound : (graph : Graph) (cache : Option Cache) (c : Cycles) (categories : List Category) (held : Held) (walk : List Step) → IsGraph graph → c.hit ≤ c.miss → AreJustified graph cache categories → IsAllowed cache held → IsGraphWalk graph.steps (Some graph.start) walk → cycles_from cache c held (map (timed_step graph c) walk) ≤ upper_cycles graph categories c walk
+pub upper_costs_bound : (graph : Graph) (cache : Option Cache) (c : Cycles) (categories : List Category) (held : Held) (walk : List Step) → HasSources graph → c.hit ≤ c.miss → AreJustified graph cache categories → IsAllowed cache held → IsGraphWalk graph.steps (Some graph.start) walk → cycles_from cache c held (map (timed_step graph c) walk) ≤ upper_cycles graph categories c walk
 upper_costs_bound graph None c categories held walk is least are allowed walks = uncached_bound graph c categories walk
 upper_costs_bound graph (Some cache) c categories held walk is least are allowed walks = cached_bound graph cache c categories least held walk (categories_are_sound graph cache categories held walk is are allowed walks)

@@ -11,8 +11,7 @@ use Rattle.wc_model.specs.Cache.Ages.{Ages, IsSolution, MayPrecise, MustPrecise,
 use Rattle.wc_model.specs.Cache.Lines.{line_of, set_of}
 use Rattle.wc_model.specs.Cache.Lru.{Held, IsAllowed, MayHold, cache_fetched, is_hit, line_fetched}
 use Rattle.wc_model.specs.Cache.Timing.{IsGraphWalk, pc_at, pc_of}
-use Rattle.wc_model.specs.Program.Graphs.{IsGraph}
-use Rattle.wc_category.specs.Sound.{AtVisits, IsAsTold}
+use Rattle.wc_category.specs.Sound.{AtVisits, HasSources, IsAsTold}
 use Rattle.wc_category.proofs.AgeLemmas.{held_ages, may_fetched, may_first, may_told, may_trans, must_fetched, must_first, must_told, must_trans, sets_fetched}
 use Rattle.wc_category.proofs.PlaceLemmas.{short_fetched}
 
@@ -22,8 +21,8 @@ node_line line [] p below = absurd (omega arith)
 node_line line (n ∷ nodes) zero below = refl
 node_line line (n ∷ nodes) (suc p) below = node_line line nodes p (omega arith)
 
-pub source_within : (graph : Graph) → IsGraph graph → (s : Step) → Contains graph.steps s → s.source < length graph.nodes
-source_within graph is s among = All-contains (λ (t : Step). t.source < length graph.nodes) graph.steps s is.sources among
+pub source_within : (graph : Graph) → HasSources graph → (s : Step) → Contains graph.steps s → s.source < length graph.nodes
+source_within graph is s among = All-contains (λ (t : Step). t.source < length graph.nodes) graph.steps s is among
 
 -- a solution goes on along a step
 goes_on : (precise : Ages → Ages → Type 0) (accessed : Ages → ℕ → Ages) → ((a b c : Ages) → precise a b → precise b c → precise a c) →
@@ -82,11 +81,11 @@ told graph cache held p stands = record {
   misses = λ empty may solves is. may_told cache.ways (line_of cache (pc_at graph p)) (held (set_of cache (pc_at graph p))) (may p (set_of cache (pc_at graph p))) (stands.short (set_of cache (pc_at graph p))) (stands.may_holds empty may solves (set_of cache (pc_at graph p))) is;
 }
 
-all_told : (graph : Graph) (cache : Cache) → IsGraph graph → (at : Option ℕ) (held : Held) (walk : List Step) → Stands graph cache at held → IsGraphWalk graph.steps at walk → AtVisits graph cache (IsAsTold graph cache) held walk
+all_told : (graph : Graph) (cache : Cache) → HasSources graph → (at : Option ℕ) (held : Held) (walk : List Step) → Stands graph cache at held → IsGraphWalk graph.steps at walk → AtVisits graph cache (IsAsTold graph cache) held walk
 all_told graph cache is at held [] stands walks = tt
 all_told graph cache is at held (s ∷ walk) stands walks =
     let here : Stands graph cache (Some s.source) held = subst (λ (o : Option ℕ). Stands graph cache o held) walks.1 stands in
     (told graph cache held s.source here, all_told graph cache is s.target (cache_fetched cache (pc_at graph s.source) held) walk (stands_on graph cache held s walks.0 (source_within graph is s walks.0) here) walks.2)
 
-pub must_and_may_are_sound : (graph : Graph) (cache : Cache) (held : Held) (walk : List Step) → IsGraph graph → IsAllowed (Some cache) held → IsGraphWalk graph.steps (Some graph.start) walk → AtVisits graph cache (IsAsTold graph cache) held walk
+pub must_and_may_are_sound : (graph : Graph) (cache : Cache) (held : Held) (walk : List Step) → HasSources graph → IsAllowed (Some cache) held → IsGraphWalk graph.steps (Some graph.start) walk → AtVisits graph cache (IsAsTold graph cache) held walk
 must_and_may_are_sound graph cache held walk is allowed walks = all_told graph cache is (Some graph.start) held walk (starts graph cache held allowed) walks

@@ -1,6 +1,6 @@
 -- What must and may, the categories and the upper costs promise of each path, from each state that the cache may have
 -- at the start. After Ferdinand and Wilhelm 1999.
-use Rattle.std.specs.Prelude.{ℕ, ◌≡◌, ◌<◌, ◌≤◌, Bool, true, false, List, [], ◌∷◌, map, length, Option, None, Some, slice_index_or}
+use Rattle.std.specs.Prelude.{ℕ, ◌≡◌, ◌<◌, ◌≤◌, Bool, true, false, List, [], ◌∷◌, map, length, Option, None, Some, All, slice_index_or}
 use Rattle.wc_model.specs.declared.graphs.Category.{Category}
 use Rattle.wc_model.specs.declared.graphs.Category.TheVariants.{Hit, Miss, Unclassified, NoCache}
 use Rattle.wc_model.specs.declared.graphs.Graph.{Graph}
@@ -14,7 +14,10 @@ use Rattle.wc_model.specs.Cache.Costs.{upper_cycles}
 use Rattle.wc_model.specs.Cache.Lines.{line_of}
 use Rattle.wc_model.specs.Cache.Lru.{Held, IsAllowed, cache_fetched, is_hit}
 use Rattle.wc_model.specs.Cache.Timing.{IsGraphWalk, cycles_from, pc_at, timed_step}
-use Rattle.wc_model.specs.Program.Graphs.{IsGraph}
+
+-- each step leaves a node, which is all that the laws need of a graph
+abbrev pub HasSources : Graph → Type 0
+HasSources graph = All (λ (s : Step). s.source < length graph.nodes) graph.steps
 
 -- `P` of the node and of whether its fetch hits, at each step of a walk
 abbrev pub AtVisits : Graph → Cache → (ℕ → Bool → Type 0) → Held → List Step → Type 0
@@ -33,7 +36,7 @@ pub record IsAsTold (graph : Graph) (cache : Cache) (p : ℕ) (hit : Bool) : Typ
 abbrev pub MustAndMayAreSound : Type 0
 MustAndMayAreSound =
     (graph : Graph) (cache : Cache) (held : Held) (walk : List Step) →
-    IsGraph graph → IsAllowed (Some cache) held → IsGraphWalk graph.steps (Some graph.start) walk → AtVisits graph cache (IsAsTold graph cache) held walk
+    HasSources graph → IsAllowed (Some cache) held → IsGraphWalk graph.steps (Some graph.start) walk → AtVisits graph cache (IsAsTold graph cache) held walk
 
 -- categories for which there are such solutions; without a cache there is nothing to ask
 abbrev pub category_at : List Category → ℕ → Category
@@ -61,12 +64,12 @@ ComesTrue NoCache hit = ⊥
 abbrev pub CategoriesAreSound : Type 0
 CategoriesAreSound =
     (graph : Graph) (cache : Cache) (categories : List Category) (held : Held) (walk : List Step) →
-    IsGraph graph → AreJustifiedIn graph cache categories → IsAllowed (Some cache) held → IsGraphWalk graph.steps (Some graph.start) walk →
+    HasSources graph → AreJustifiedIn graph cache categories → IsAllowed (Some cache) held → IsGraphWalk graph.steps (Some graph.start) walk →
     AtVisits graph cache (λ p hit. ComesTrue (category_at categories p) hit) held walk
 
 -- the cycles of a walk are at most the sum of its upper costs
 abbrev pub UpperCostsBound : Type 0
 UpperCostsBound =
     (graph : Graph) (cache : Option Cache) (c : Cycles) (categories : List Category) (held : Held) (walk : List Step) →
-    IsGraph graph → c.hit ≤ c.miss → AreJustified graph cache categories → IsAllowed cache held → IsGraphWalk graph.steps (Some graph.start) walk →
+    HasSources graph → c.hit ≤ c.miss → AreJustified graph cache categories → IsAllowed cache held → IsGraphWalk graph.steps (Some graph.start) walk →
     cycles_from cache c held (map (timed_step graph c) walk) ≤ upper_cycles graph categories c walk

@@ -15,8 +15,8 @@ use Rattle.wc_model.specs.declared.flow_system.SystemStep.{SystemStep}
 use Rattle.wc_model.specs.Flow.Certificates.{Prices, ArePrices, ahead_of, back_price, entry_price, factor_of, limit_price, step_price, dual_value}
 use Rattle.wc_model.specs.Flow.Counts.{IsFeasible, IsBounded, IsLimited, out_of, into, value_of}
 use Rattle.wc_model.specs.Flow.Places.{is_listed, IsOnce}
-use Rattle.wc_model.specs.Flow.Systems.{ArePlaces, IsSystem, IsSystemLoop, named_by, leads_to}
-use Rattle.wc_dual.specs.Laws.{CertificatesBound}
+use Rattle.wc_model.specs.Flow.Systems.{ArePlaces, named_by, leads_to}
+use Rattle.wc_dual.specs.Laws.{CertificatesBound, HasPlaces}
 
 -- an element by its place is one of all
 pub get_all : {X : Type 0} (P : X → Type 0) (xs : List X) (i : ℕ) (x : X) → slice_get xs i ≡ Some x → All P xs → P x
@@ -144,7 +144,7 @@ module _ (g : ℕ → ℤ) (n : ℕ) where
       chosen_times true c z = refl
       chosen_times false c z = zero-*ℤ z
 
-module _ (s : System) (x : ℕ → ℤ) (w : ℕ → ℤ) (is : IsSystem s) where
+module _ (s : System) (x : ℕ → ℤ) (w : ℕ → ℤ) (is : HasPlaces s) where
   by_limit : sum_placed (λ i t. x i *ℤ limit_price w s.limits t.source) s.steps ≡ sum_placed (λ k l. w k *ℤ sum_in (λ f. f.1 *ℤ out_of s.steps x f.0) l.factors) s.limits
   by_limit =
       sum_same (λ i t. x i *ℤ limit_price w s.limits t.source) (λ i t. sum_placed (λ k l. w k *ℤ (x i *ℤ factor_of t.source l.factors)) s.limits) s.steps
@@ -177,7 +177,7 @@ limit_paid w constant den sum some most =
     omega (arith, ints, monotone w sum (constant *ℤ den) some most, exchange w constant den, exchange den constant w, ap (λ z. constant *ℤ z) (*ℤ_comm w den))
 
 -- The parts of what is paid for all counts.
-module _ (s : System) (cost : SystemStep → ℤ) (prices : Prices) (den : ℤ) (x : ℕ → ℤ) (is : IsSystem s) (priced : ArePrices s cost prices) (feasible : IsFeasible s den x) where
+module _ (s : System) (cost : SystemStep → ℤ) (prices : Prices) (den : ℤ) (x : ℕ → ℤ) (is : HasPlaces s) (priced : ArePrices s cost prices) (feasible : IsFeasible s den x) where
   paid : value_of cost s.steps x ≤ℤ sum_placed (λ i t. x i *ℤ step_price s prices i t) s.steps
   paid = subst (λ z. z ≤ℤ sum_placed (λ i t. x i *ℤ step_price s prices i t) s.steps)
       (sum_same (λ i t. x i *ℤ cost t) (λ i t. cost t *ℤ x i) s.steps (λ i t at. *ℤ_comm (x i) (cost t)))
@@ -227,8 +227,8 @@ module _ (s : System) (cost : SystemStep → ℤ) (prices : Prices) (den : ℤ) 
 
   loops_paid : (sum_placed of_back s.steps -ℤ sum_placed of_entry s.steps) ≤ℤ (den *ℤ sum_placed (λ k l. chosen (l.head == s.start) (pos l.bound *ℤ prices.v k)) s.loops)
   loops_paid =
-      let back = by_loop s x (λ l. l.back) (λ k l. prices.v k) (λ k l at. (get_all (IsSystemLoop s) s.loops k l at is.loops).back) in
-      let entry = by_loop s x (λ l. l.entry) (λ k l. pos l.bound *ℤ prices.v k) (λ k l at. (get_all (IsSystemLoop s) s.loops k l at is.loops).entry) in
+      let back = by_loop s x (λ l. l.back) (λ k l. prices.v k) (λ k l at. get_all (λ o. ArePlaces (length s.steps) o.back) s.loops k l at is.backs) in
+      let entry = by_loop s x (λ l. l.entry) (λ k l. pos l.bound *ℤ prices.v k) (λ k l at. get_all (λ o. ArePlaces (length s.steps) o.entry) s.loops k l at is.entries) in
       let less = sum_less (λ k l. prices.v k *ℤ sum_in x l.back) (λ k l. (pos l.bound *ℤ prices.v k) *ℤ sum_in x l.entry) s.loops in
       let most = sum_most (λ k l. prices.v k *ℤ sum_in x l.back -ℤ (pos l.bound *ℤ prices.v k) *ℤ sum_in x l.entry)
       (λ k l. den *ℤ chosen (l.head == s.start) (pos l.bound *ℤ prices.v k)) s.loops

@@ -1,5 +1,5 @@
 -- The steps of a walk are feasible counts.
-use Rattle.std.proofs.Common.{◌≡◌, ℕ, ◌==◌, ◌≤◌, ◌+◌, ◌*◌, ℤ, pos, ◌+ℤ◌, ◌-ℤ◌, ◌*ℤ◌, ◌≤ℤ◌, List, [], ◌∷◌, get_or, slice_get, Option, Some, None, Bool, true, false, if◌then◌else◌, refl, sym, ap, ap₂, subst, ◌∙◌, arith}
+use Rattle.std.proofs.Common.{◌≡◌, ℕ, ◌==◌, ◌≤◌, ◌+◌, ◌*◌, ℤ, pos, ◌+ℤ◌, ◌-ℤ◌, ◌*ℤ◌, ◌≤ℤ◌, List, [], ◌∷◌, length, get_or, slice_get, Option, Some, None, Bool, true, false, if◌then◌else◌, refl, sym, ap, ap₂, subst, ◌∙◌, arith}
 use Rattle.std.proofs.Math.IntN.{*ℤ-zero, zero-*ℤ, pos-*ℤ-pos}
 use Rattle.std.proofs.lemmas.Int.{ints}
 use Rattle.std.proofs.lemmas.Option.{slice_get-get_or}
@@ -13,7 +13,7 @@ use Rattle.wc_model.specs.declared.flow_system.SystemStep.{SystemStep}
 use Rattle.wc_model.specs.Flow.Counts.{IsBounded, IsLimited, out_of, value_of}
 use Rattle.wc_model.specs.Flow.Places.{is_listed, IsOnce}
 use Rattle.wc_model.specs.Flow.SystemWalks.{IsPlaceWalk, visits, passes, is_from, leaves, MeetsLoop, MeetsLimit, cost_at, walk_value}
-use Rattle.wc_model.specs.Flow.Systems.{IsSystemLoop, leads_to}
+use Rattle.wc_model.specs.Flow.Systems.{ArePlaces, leads_to}
 use Rattle.wc_dual.specs.Laws.{WalksAreFeasible}
 use Rattle.wc_dual.proofs.DualityLemmas.{chosen_apart, get_all, same_number, times_chosen}
 
@@ -144,8 +144,9 @@ walks_are_feasible s walk is walks meets = (
       walk_balance s.steps p (Some s.start) None walk walks,
     );
     bounded = all_from (IsBounded s.start (pos 1) (visits walk)) s.loops (λ k l at.
-        let placed : IsSystemLoop s l = get_all (IsSystemLoop s) s.loops k l at is.loops in
-        loop_met s.start walk l placed.back.1 placed.entry.1 (get_all (MeetsLoop s.start walk) s.loops k l at meets.loops));
+        let backs : ArePlaces (length s.steps) l.back = get_all (λ o. ArePlaces (length s.steps) o.back) s.loops k l at is.backs in
+        let entries : ArePlaces (length s.steps) l.entry = get_all (λ o. ArePlaces (length s.steps) o.entry) s.loops k l at is.entries in
+        loop_met s.start walk l backs.1 entries.1 (get_all (MeetsLoop s.start walk) s.loops k l at meets.loops));
     limited = all_from (IsLimited s.steps (pos 1) (visits walk)) s.limits (λ k l at.
         limit_met s.steps (Some s.start) None walk l walks (get_all (MeetsLimit s.steps walk) s.limits k l at meets.limits));
   },
