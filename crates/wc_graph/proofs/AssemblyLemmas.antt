@@ -1,5 +1,5 @@
 -- Contexts, nodes and steps with their new numbers.
-use Rattle.std.proofs.Common.{ℕ, zero, suc, ◌≡◌, ◌+◌, ◌<◌, inl, inr, Bool, List, [], ◌∷◌, ◌++◌, map, Option, None, Some, IfSome, Vec, Global, option_and_then, length, get_or, drop, append_assoc, refl, sym, ap, subst, ◌∙◌}
+use Rattle.std.proofs.Common.{ℕ, zero, suc, ◌≡◌, ◌+◌, ◌<◌, inl, inr, Bool, List, [], ◌∷◌, ◌++◌, map, Option, None, Some, IfSome, option_and_then, length, get_or, drop, append_assoc, refl, sym, ap, subst, ◌∙◌}
 use Rattle.std.specs.List.{AllZip, flat_map, slice_get}
 use Rattle.std.proofs.lemmas.List.{drop_more}
 use Rattle.std.proofs.lemmas.Option.{none-some, same_Some, slice_get_within, get_or_from_slice_get}
@@ -31,12 +31,12 @@ pub rank_is : (ranks : List (Option ℕ)) (k i : ℕ) → slice_get ranks k ≡ 
 rank_is ranks k i at = get_or_from_slice_get ranks k (Some i) None at
 
 -- the steps of one node more, from the front of what is to come
-pub steps_more : (leaps : List (Vec Leap Global)) (numbers : List (Option ℕ)) (order : List ℕ) (i : ℕ) (old new : List NumberedStep) (v : Vec Leap Global) → i < length order → slice_get leaps (get_or order i 0) ≡ Some v → new ≡ old ++ flat_map (step_of numbers i) v.items → new ++ steps_from leaps numbers (i + 1) (drop (i + 1) order) ≡ old ++ steps_from leaps numbers i (drop i order)
+pub steps_more : (leaps : List (List Leap)) (numbers : List (Option ℕ)) (order : List ℕ) (i : ℕ) (old new : List NumberedStep) (v : List Leap) → i < length order → slice_get leaps (get_or order i 0) ≡ Some v → new ≡ old ++ flat_map (step_of numbers i) v → new ++ steps_from leaps numbers (i + 1) (drop (i + 1) order) ≡ old ++ steps_from leaps numbers i (drop i order)
 steps_more leaps numbers order i old new v less at is =
     let rest : List NumberedStep = steps_from leaps numbers (i + 1) (drop (i + 1) order) in
     ap (λ (xs : List NumberedStep). xs ++ rest) is
-    ∙ append_assoc old (flat_map (step_of numbers i) v.items) rest
-    ∙ ap (λ (o : Option (Vec Leap Global)). old ++ (flat_map (step_of numbers i) (leaps_at o) ++ rest)) (sym at)
+    ∙ append_assoc old (flat_map (step_of numbers i) v) rest
+    ∙ ap (λ (o : Option (List Leap)). old ++ (flat_map (step_of numbers i) (leaps_at o) ++ rest)) (sym at)
     ∙ ap (λ (ks : List ℕ). old ++ steps_from leaps numbers i ks) (sym (drop_more order i 0 less))
 
 -- the contexts have the stacks of their frames

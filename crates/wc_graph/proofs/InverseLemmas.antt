@@ -1,14 +1,15 @@
 -- One number more has its place.
-use Rattle.std.proofs.Common.{ℕ, ◌≡◌, ◌≢◌, ◌+◌, ◌<◌, ◌≤◌, ⊎_elim, List, Option, Some, length, set, sym, ap, subst, ◌∙◌, arith}
+use Rattle.std.proofs.Common.{ℕ, ◌≡◌, ◌≢◌, ◌+◌, ◌<◌, ◌≤◌, ⊎_elim, List, Option, None, Some, length, replicate, set, sym, ap, subst, ◌∙◌, arith}
 use Rattle.std.specs.List.{slice_get}
 use Rattle.std.proofs.lemmas.Bool.{cases_eq, cases_lt}
-use Rattle.std.proofs.lemmas.List.{length-set}
-use Rattle.std.proofs.lemmas.Option.{same_Some}
+use Rattle.std.proofs.lemmas.List.{length-set, length-replicate}
+use Rattle.std.proofs.lemmas.Option.{none-some, same_Some}
 use Rattle.wc_model.proofs.Places.{get_set, get_set_cases, get_set_other}
 use Rattle.wc_graph.specs.Inner.Inverses.{IsPlacedTo}
+use Rattle.wc_graph.proofs.ListLemmas.{get_filled}
 
-pub placed_none : (count : ℕ) (listed : List ℕ) (places : List (Option ℕ)) → length places ≡ count → ((k i : ℕ) → slice_get places k ≡ Some (Some i) → ⊥) → IsPlacedTo count listed 0 places
-placed_none count listed places counted none = record { counted = counted; back = λ k i at. absurd (none k i at); there = λ once i k less at. absurd (omega arith) }
+pub placed_none : (count : ℕ) (listed : List ℕ) (places : List (Option ℕ)) → places ≡ replicate count None → IsPlacedTo count listed 0 places
+placed_none count listed places is = record { counted = ap length is ∙ length-replicate count None; back = λ k i at. absurd (none-some i (sym (get_filled count k None (Some i) (subst (λ (xs : List (Option ℕ)). slice_get xs k ≡ Some (Some i)) is at)))); there = λ once i k less at. absurd (omega arith) }
 
 pub placed_more : (count : ℕ) (listed : List ℕ) (number k : ℕ) (old new : List (Option ℕ)) → IsPlacedTo count listed number old → slice_get listed number ≡ Some k → k < count → new ≡ set old k (Some number) → IsPlacedTo count listed (number + 1) new
 placed_more count listed number k old new placed at less is = record {

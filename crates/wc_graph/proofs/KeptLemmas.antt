@@ -1,5 +1,5 @@
 -- The steps that the graph keeps, with their new numbers.
-use Rattle.std.proofs.Common.{ℕ, zero, suc, ◌≡◌, ◌+◌, ◌<◌, List, [], ◌∷◌, ◌++◌, Option, None, Some, Vec, Global, length, refl, sym, ap, subst, ◌∙◌, arith}
+use Rattle.std.proofs.Common.{ℕ, zero, suc, ◌≡◌, ◌+◌, ◌<◌, List, [], ◌∷◌, ◌++◌, Option, None, Some, length, refl, sym, ap, subst, ◌∙◌, arith}
 use Rattle.std.specs.List.{AllZip, flat_map, slice_get}
 use Rattle.std.proofs.lemmas.Option.{none-some, slice_get_within}
 use Rattle.wc_model.proofs.Places.{get_within}
@@ -37,8 +37,8 @@ module _ {image : Image} {facts : List Fact} {entry : ℕ} {survey : Survey} {ra
   abbrev numbers : List (Option ℕ)
   numbers = ordering.numbers.items
 
-  abbrev leaps : List (Vec Leap Global)
-  leaps = survey.code.leaps.items
+  abbrev leaps : List (List Leap)
+  leaps = survey.code.leaps
 
   abbrev steps : Position → List Step
   steps = steps_of image facts entry
@@ -68,7 +68,7 @@ module _ {image : Image} {facts : List Fact} {entry : ℕ} {survey : Survey} {ra
   own_leaps k q at =
       let less : k < length (ps b) = slice_get_within (ps b) k q at in
       let v = get_within leaps k (omega (arith, less, count image facts entry survey b.is, b.is.all)) in
-      subst (λ (o : Option (Vec Leap Global)). AllZip (Lands (ps b)) (leaps_at o) (steps q)) (sym v.1) (b.is.searching.expanded k v.0 q v.1 at)
+      subst (λ (o : Option (List Leap)). AllZip (Lands (ps b)) (leaps_at o) (steps q)) (sym v.1) (b.is.searching.expanded k v.0 q v.1 at)
 
   keep_from : (n : ℕ) (ks : List ℕ) (qs : List Position) → AllZip (λ k q. slice_get (ps b) k ≡ Some q) ks qs → ((i : ℕ) (q : Position) → slice_get qs i ≡ Some q → slice_get (positions b) (n + i) ≡ Some q) → AreKeptAll (steps_from leaps numbers n ks) (flat_map steps qs)
   keep_from n [] [] zip behind = record { some = []; kept = nothing; stands = tt }

@@ -1,4 +1,8 @@
 pub mod KeysLemmas
+pub mod ListLemmas
+pub mod BucketLemmas
+pub mod FoundLemmas
+pub mod RowLemmas
 pub mod Interning
 pub mod ZipLemmas
 pub mod FrameLemmas
@@ -6,6 +10,8 @@ pub mod CodeLemmas
 pub mod ExpandLemmas
 pub mod OpenedLemmas
 pub mod RisingLemmas
+pub mod SortedLemmas
+pub mod RankedLemmas
 pub mod StatedLemmas
 pub mod WayLemmas
 pub mod FaultLemmas

@@ -44,12 +44,12 @@ module _ (image : Image) (facts : List Fact) (entry : ℕ) (survey : Survey) (is
       subst (λ (y : Place). IsAt entry frames y p) (sym (get_or_from_slice_get places k x.0 (record { frame = 0; pc = 0 }) x.1)) x.2
 
   pub ends_are : (k : ℕ) (p : Position) → slice_get ps_of k ≡ Some p → (IsMarked marks k → Ends (LeadsBy (steps_of image facts entry)) p) × (Ends (LeadsBy (steps_of image facts entry)) p → IsMarked marks k)
-  ends_are k p at = live_marks image facts entry frames places survey.code.leaps.items None is.searching is.few (omega (arith, is.all)) is.live.sources is.live.are marks is.live.spread k p at
+  ends_are k p at = live_marks image facts entry frames places survey.code.leaps None is.searching is.few (omega (arith, is.all)) is.live.sources is.live.are marks is.live.spread k p at
 
   -- a live position has a live number
   pub live_number : (p : Position) → IsLivePosition image facts entry p → (k : ℕ) × (slice_get ps_of k ≡ Some p) × IsMarked marks k
   live_number p live =
-      let at = every image facts entry frames places survey.code.leaps.items None is.searching is.few (omega (arith, is.all)) p live.0 in
+      let at = every image facts entry frames places survey.code.leaps None is.searching is.few (omega (arith, is.all)) p live.0 in
       (at.0, at.1, (ends_are at.0 p at.1).1 live.1)
 
   pub marked_within : (k : ℕ) → IsMarked marks k → k < length places

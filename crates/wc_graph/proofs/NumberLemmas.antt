@@ -1,5 +1,5 @@
 -- What the numbers of the graph keep, for the phases after it.
-use Rattle.std.proofs.Common.{ℕ, ◌≡◌, ◌+◌, ◌<◌, ◌≤◌, inl, inr, ⊎_elim, Bool, List, [], ◌∷◌, ◌++◌, reverse, Option, None, Some, IfSome, Vec, Global, option_and_then, length, get_or, refl, sym, ap, subst, ◌∙◌, arith}
+use Rattle.std.proofs.Common.{ℕ, ◌≡◌, ◌+◌, ◌<◌, ◌≤◌, inl, inr, ⊎_elim, Bool, List, [], ◌∷◌, ◌++◌, reverse, Option, None, Some, IfSome, option_and_then, length, get_or, refl, sym, ap, subst, ◌∙◌, arith}
 use Rattle.std.specs.List.{All, AllZip, flat_map, slice_get}
 use Rattle.std.proofs.lemmas.Bool.{cases_lt}
 use Rattle.std.proofs.lemmas.List.{reverse-append, reverse-reverse}
@@ -45,7 +45,7 @@ all_from P xs each k d less = each k (get_or xs k d) (slice_get-get_or xs k d le
 abbrev Rising : NumberedStep → NumberedStep → Type 0
 Rising s t = s.source ≤ t.source
 
-module _ (leaps : List (Vec Leap Global)) (numbers : List (Option ℕ)) where
+module _ (leaps : List (List Leap)) (numbers : List (Option ℕ)) where
   one_source : (n : ℕ) (taken : Bool) (o : Option (Option ℕ)) (z : NumberedStep) → Has (step_to n taken o) z → z.source ≡ n
   one_source n taken None z (inl same) = ap (λ (s : NumberedStep). s.source) (sym same)
   one_source n taken None z (inr none) = absurd none
@@ -155,7 +155,7 @@ module _ {image : Image} {facts : List Fact} {entry : ℕ} {survey : Survey} {ra
       targets = all_from (λ (s : NumberedStep). IfSome s.target (λ q. q < length graph.nodes)) graph.steps (λ i z at.
           let s = zip_right (IsStepOf (positions b)) graph.steps kept.some i z kept.stands at in
           target_inside z.target s.0.target s.2.target_is);
-      sorted = pairs_all Rising graph.steps (subst (Pairs Rising) (sym built.steps) (sources_rise survey.code.leaps.items ordering.numbers.items 0 ordering.order.items));
+      sorted = pairs_all Rising graph.steps (subst (Pairs Rising) (sym built.steps) (sources_rise survey.code.leaps ordering.numbers.items 0 ordering.order.items));
       live = λ k less. let p = get_within (positions b) k (omega (arith, less, count)) in live_in b graph.steps kept graph.start (started b graph built) k p.0 p.1;
       placed = all_from (λ (n : Node). n.context < length graph.contexts) graph.nodes (λ i n at.
           let p = zip_right (IsNodeOf image entry graph.contexts) graph.nodes (positions b) i n nodes at in

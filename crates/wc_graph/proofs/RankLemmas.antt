@@ -38,7 +38,7 @@ module _ (image : Image) (facts : List Fact) (entry : ℕ) (survey : Survey) (is
     few = is.few;
     live = omega (arith, is.live.spread.count, is.live.are.counted, is.all);
     leaps = is.all;
-    targets = λ v has. subst (λ (n : ℕ). AreTargets n v.items) is.all (is.targets v has);
+    targets = λ v has. subst (λ (n : ℕ). AreTargets n v) is.all (is.targets v has);
   }
 
   pub some_frames : 0 < length survey.code.frames.keys

@@ -1,5 +1,5 @@
 -- What a complete exploration says: each reached position has a number, and the first fault is that of a number.
-use Rattle.std.proofs.Common.{ℕ, zero, suc, ◌≡◌, ◌+◌, ◌<◌, ◌≤◌, inl, inr, ⊎_elim, Bool, List, [], ◌∷◌, Option, None, Some, Vec, Global, length, refl, sym, ap, subst, ◌∙◌, arith}
+use Rattle.std.proofs.Common.{ℕ, zero, suc, ◌≡◌, ◌+◌, ◌<◌, ◌≤◌, inl, inr, ⊎_elim, Bool, List, [], ◌∷◌, Option, None, Some, length, refl, sym, ap, subst, ◌∙◌, arith}
 use Rattle.std.specs.List.{AllZip, Contains, slice_get}
 use Rattle.std.proofs.lemmas.Option.{none-some, same_Some, slice_get_within}
 use Rattle.wc_base.specs.declared.faults.Fault.{Fault}
@@ -37,6 +37,9 @@ has_get [] x has = absurd has
 has_get (y ∷ xs) x (inl same) = (0, ap Some same)
 has_get (y ∷ xs) x (inr later) = let deep = has_get xs x later in (suc deep.0, deep.1)
 
+pub has_contains : {X : Type 0} (xs : List X) (x : X) → Has xs x → Contains xs x
+has_contains xs x has = let at = has_get xs x has in contains_from_get xs at.0 x at.1
+
 pub target_some : (ps : List Position) (o : Option ℕ) (t : Option Position) (r : Position) → t ≡ Some r → IsTargetOf ps o t → (j : ℕ) × (o ≡ Some j) × (slice_get ps j ≡ Some r)
 target_some ps None t r to is = absurd (none-some r (sym is ∙ to))
 target_some ps (Some j) t r to is = (j, refl, is.1 ∙ ap Some (same_Some is.0 r (sym is.2 ∙ to)))
@@ -53,7 +56,7 @@ none_target : (ps : List Position) (o : Option ℕ) (t : Option Position) → o 
 none_target ps None t to is = is
 none_target ps (Some i) t to is = absurd (none-some i (sym to))
 
-module _ (image : Image) (facts : List Fact) (entry : ℕ) (frames : List Frame) (places : List Place) (leaps : List (Vec Leap Global)) (least : Option Faulty) (s : IsSearchingOf image facts entry frames places leaps least) (few : length places ≤ 100000) (all : length places ≤ length leaps) where
+module _ (image : Image) (facts : List Fact) (entry : ℕ) (frames : List Frame) (places : List Place) (leaps : List (List Leap)) (least : Option Faulty) (s : IsSearchingOf image facts entry frames places leaps least) (few : length places ≤ 100000) (all : length places ≤ length leaps) where
   abbrev steps : Position → List Step
   steps = steps_of image facts entry
 
@@ -65,10 +68,10 @@ module _ (image : Image) (facts : List Fact) (entry : ℕ) (frames : List Frame)
 
   -- a step of a position, by its number
   pub record HasLeap (k : ℕ) (t : Step) : Type 0 where
-    pub own : Vec Leap Global
+    pub own : List Leap
     pub at : slice_get leaps k ≡ Some own
     pub leap : Leap
-    pub among : Has own.items leap
+    pub among : Has own leap
     pub lands : Lands ps leap t
 
   pub step_leap : (k : ℕ) (p : Position) (t : Step) → slice_get ps k ≡ Some p → Contains (steps p) t → HasLeap k t
@@ -76,18 +79,18 @@ module _ (image : Image) (facts : List Fact) (entry : ℕ) (frames : List Frame)
       let less : k < length ps = slice_get_within ps k p at in
       let v = get_within leaps k (omega (arith, less, count, all)) in
       let place = get_from_contains (steps p) t among in
-      let lands = zip_left (Lands ps) v.0.items (steps p) place.0 t (s.expanded k v.0 p v.1 at) place.1 in
-      record { own = v.0; at = v.1; leap = lands.0; among = get_has v.0.items place.0 lands.0 lands.1; lands = lands.2 }
+      let lands = zip_left (Lands ps) v.0 (steps p) place.0 t (s.expanded k v.0 p v.1 at) place.1 in
+      record { own = v.0; at = v.1; leap = lands.0; among = get_has v.0 place.0 lands.0 lands.1; lands = lands.2 }
 
   pub record IsLeapStep (p : Position) (leap : Leap) : Type 0 where
     pub step : Step
     pub among : Contains (steps p) step
     pub lands : Lands ps leap step
 
-  pub leap_step : (k : ℕ) (p : Position) (own : Vec Leap Global) (leap : Leap) → slice_get ps k ≡ Some p → slice_get leaps k ≡ Some own → Has own.items leap → IsLeapStep p leap
+  pub leap_step : (k : ℕ) (p : Position) (own : List Leap) (leap : Leap) → slice_get ps k ≡ Some p → slice_get leaps k ≡ Some own → Has own leap → IsLeapStep p leap
   leap_step k p own leap at at_own among =
-      let place = has_get own.items leap among in
-      let lands = zip_right (Lands ps) own.items (steps p) place.0 leap (s.expanded k own p at_own at) place.1 in
+      let place = has_get own leap among in
+      let lands = zip_right (Lands ps) own (steps p) place.0 leap (s.expanded k own p at_own at) place.1 in
       record { step = lands.0; among = contains_from_get (steps p) place.0 lands.0 lands.1; lands = lands.2 }
 
   -- each reached position has a number
@@ -122,9 +125,6 @@ module _ (image : Image) (facts : List Fact) (entry : ℕ) (frames : List Frame)
         pairs.0 other.0 other.1 (same_Some x other.0 (sym zip.0 ∙ ap (slice_get ps) same ∙ other.2)),
     numbers_apart ks xs zip.1 pairs.1,
   )
-
-  has_contains : (xs : List Position) (p : Position) → Has xs p → Contains xs p
-  has_contains xs p has = let at = has_get xs p has in contains_from_get xs at.0 p at.1
 
   pub not_many : IsTooLarge image facts entry → ⊥
   not_many large =
@@ -167,7 +167,7 @@ module _ (image : Image) (facts : List Fact) (entry : ℕ) (frames : List Frame)
 
   -- the positions from which the exit is reached
   module _ (sources : Sources) (are : AreSources (length leaps) (edges_from 0 leaps) sources) where
-    ends_of : {k : ℕ} → Spread sources.into.items sources.exits.items k → (p : Position) → slice_get ps k ≡ Some p → Ends (LeadsBy steps) p
+    ends_of : {k : ℕ} → Spread sources.into sources.exits.items k → (p : Position) → slice_get ps k ≡ Some p → Ends (LeadsBy steps) p
     ends_of (begins k has) p at =
         let leap = edge_leap 0 leaps k None ((are.exits k).0 has) in
         let at_own : slice_get leaps k ≡ Some leap.2.own = ap (slice_get leaps) (omega (arith, leap.1)) ∙ leap.2.at in
@@ -188,18 +188,18 @@ module _ (image : Image) (facts : List Fact) (entry : ℕ) (frames : List Frame)
     numbered : (k : ℕ) (t : Option ℕ) → Has (edges_from 0 leaps) (0 + k, t) → Has (edges_from 0 leaps) (k, t)
     numbered k t has = subst (λ (i : ℕ). Has (edges_from 0 leaps) (i, t)) (omega arith) has
 
-    spread_of : (p : Position) → Ends (LeadsBy steps) p → (k : ℕ) → slice_get ps k ≡ Some p → Spread sources.into.items sources.exits.items k
+    spread_of : (p : Position) → Ends (LeadsBy steps) p → (k : ℕ) → slice_get ps k ≡ Some p → Spread sources.into sources.exits.items k
     spread_of p (exits leads) k at =
         let leap = step_leap k p leads.0 at leads.1 in
         begins k ((are.exits k).1 (numbered k None (leap_edge 0 leaps k None leap.own leap.leap leap.at leap.among (target_none ps leap.leap.target leads.0.target leads.2 leap.lands.target))))
     spread_of p (onward r leads ends) k at =
         let leap = step_leap k p leads.0 at leads.1 in
         let target = target_some ps leap.leap.target leads.0.target r leads.2 leap.lands.target in
-        let way : Spread sources.into.items sources.exits.items target.0 = spread_of r ends target.0 target.2 in
+        let way : Spread sources.into sources.exits.items target.0 = spread_of r ends target.0 target.2 in
         let less : target.0 < length leaps = omega (arith, all, count, slice_get_within ps target.0 r target.2) in
-        let v = get_within sources.into.items target.0 (omega (arith, less, are.counted)) in
+        let v = get_within sources.into target.0 (omega (arith, less, are.counted)) in
         goes k v.0 way v.1 ((are.into target.0 v.0 v.1 k).1 (numbered k (Some target.0) (leap_edge 0 leaps k (Some target.0) leap.own leap.leap leap.at leap.among target.1)))
 
     -- marks are those of the positions from which the exit is reached
-    pub live_marks : (marks : List Bool) → IsSpread sources.into.items sources.exits.items marks → (k : ℕ) (p : Position) → slice_get ps k ≡ Some p → (IsMarked marks k → Ends (LeadsBy steps) p) × (Ends (LeadsBy steps) p → IsMarked marks k)
+    pub live_marks : (marks : List Bool) → IsSpread sources.into sources.exits.items marks → (k : ℕ) (p : Position) → slice_get ps k ≡ Some p → (IsMarked marks k → Ends (LeadsBy steps) p) × (Ends (LeadsBy steps) p → IsMarked marks k)
     live_marks marks is k p at = (λ marked. ends_of ((is.is k).0 marked) p at, λ ends. (is.is k).1 (spread_of p ends k at))

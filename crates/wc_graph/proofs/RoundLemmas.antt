@@ -1,5 +1,5 @@
 -- One round of the walk over the frames.
-use Rattle.std.proofs.Common.{ℕ, ◌≡◌, ◌<◌, ◌≤◌, ◌⊎◌, inl, inr, ⊎_elim, Bool, List, [], ◌∷◌, ◌++◌, map, reverse, Option, Some, Vec, Global, option_to_list, length, refl, sym, ap, subst, ◌∙◌, arith}
+use Rattle.std.proofs.Common.{ℕ, ◌≡◌, ◌<◌, ◌≤◌, ◌⊎◌, inl, inr, ⊎_elim, Bool, List, [], ◌∷◌, ◌++◌, map, reverse, Option, Some, option_to_list, length, refl, sym, ap, subst, ◌∙◌, arith}
 use Rattle.std.specs.List.{slice_get}
 use Rattle.std.proofs.lemmas.List.{reverse-append, reverse-reverse}
 use Rattle.wc_graph.specs.declared.frames.Frame.{Frame}
@@ -40,24 +40,24 @@ falling_has frames numbers fall few inside falling k has =
     subst (Has numbers) (sym low_is ∙ key.2) from.1)
     (all_in [] (map (key_at frames) numbers) key.0 key.1)
 
-module _ (frames : List Frame) (live : List Bool) (kids : Sources) (are : AreFrames frames) (few : length frames ≤ 100000) (family : IsFamily frames live (length frames) kids) (j : ℕ) (v : Vec ℕ Global) (at : slice_get kids.into.items j ≡ Some v) where
-  kid : (k : ℕ) → Has v.items k → (k < length frames) × IsMarked live k × ((frame_at frames k).parent ≡ Some j)
+module _ (frames : List Frame) (live : List Bool) (kids : Sources) (are : AreFrames frames) (few : length frames ≤ 100000) (family : IsFamily frames live (length frames) kids) (j : ℕ) (v : List ℕ) (at : slice_get kids.into j ≡ Some v) where
+  kid : (k : ℕ) → Has v k → (k < length frames) × IsMarked live k × ((frame_at frames k).parent ≡ Some j)
   kid k has = family.there (k, Some j) ((family.are.into j v at k).0 has)
 
-  pub kids_inside : Inside (length frames) v.items
+  pub kids_inside : Inside (length frames) v
   kids_inside k has = (kid k has).0
 
-  every : (k : ℕ) → k < length frames → IsMarked live k → (frame_at frames k).parent ≡ Some j → Has v.items k
+  every : (k : ℕ) → k < length frames → IsMarked live k → (frame_at frames k).parent ≡ Some j → Has v k
   every k less live_k parent = (family.are.into j v at k).1 (subst (λ (t : Option ℕ). Has family.edges (k, t)) parent (family.back k less live_k))
 
-  module _ (fall : List ℕ) (falling : AreFalling frames v.items fall) where
+  module _ (fall : List ℕ) (falling : AreFalling frames v fall) where
     pub round : (entry : ℕ) → IsWalkable entry frames live → (listed work rest : List ℕ) → work ≡ rest ++ j ∷ [] → IsWalking entry frames live listed (reverse work) → IsWalking entry frames live (listed ++ j ∷ []) (reverse (rest ++ fall))
     round entry walkable listed work rest popped walking =
         let top : reverse work ≡ j ∷ reverse rest = ap reverse popped ∙ reverse-append rest (j ∷ []) in
-        let rising : List ℕ = children entry frames live are few walkable j v.items (λ k has. let is = kid k has in (is.1, is.2)) falling.fits in
+        let rising : List ℕ = children entry frames live are few walkable j v (λ k has. let is = kid k has in (is.1, is.2)) falling.fits in
         let back : rising ++ reverse rest ≡ reverse (rest ++ fall) = ap (λ (xs : List ℕ). xs ++ reverse rest) (sym (ap reverse falling.are ∙ reverse-reverse rising)) ∙ sym (reverse-append rest fall) in
         subst (IsWalking entry frames live (listed ++ j ∷ [])) back
-        (walking_goes_on entry frames live are few walkable j v.items (λ k has. let is = kid k has in (is.1, is.2)) falling.fits (λ k live_k parent. every k (live_within entry frames live are few walkable k live_k) live_k parent) listed (reverse rest)
+        (walking_goes_on entry frames live are few walkable j v (λ k has. let is = kid k has in (is.1, is.2)) falling.fits (λ k live_k parent. every k (live_within entry frames live are few walkable k live_k) live_k parent) listed (reverse rest)
         (subst (IsWalking entry frames live listed) top walking))
 
 pub popped : {X : Type 0} (old new : List X) (r : Option X) (x : X) → old ≡ new ++ option_to_list r → r ≡ Some x → old ≡ new ++ x ∷ []

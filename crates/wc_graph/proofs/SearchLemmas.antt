@@ -1,5 +1,5 @@
 -- One position more is expanded.
-use Rattle.std.proofs.Common.{ℕ, zero, suc, ◌≡◌, ◌<◌, ◌≤◌, ⊎_elim, List, [], ◌∷◌, ◌++◌, map, Option, None, Some, IfSome, Bool, true, false, Ok, Err, Vec, Global, length, refl, sym, ap, subst, ◌∙◌, arith}
+use Rattle.std.proofs.Common.{ℕ, zero, suc, ◌≡◌, ◌<◌, ◌≤◌, ⊎_elim, List, [], ◌∷◌, ◌++◌, map, Option, None, Some, IfSome, Bool, true, false, length, refl, sym, ap, subst, ◌∙◌, arith}
 use Rattle.std.specs.List.{AllZip, Contains, slice_get}
 use Rattle.std.proofs.lemmas.Bool.{cases_lt}
 use Rattle.std.proofs.lemmas.List.{length_push, length-map, get_or-map}
@@ -39,7 +39,7 @@ contains_map f xs x among =
     let less : among.0 < length xs = among.1 in
     (among.0, omega (arith, length-map xs f), get_or-map f xs among.0 x (f x) less ∙ ap f among.2)
 
-module _ (image : Image) (facts : List Fact) (entry : ℕ) (frames : List Frame) (places : List Place) (leaps : List (Vec Leap Global)) (least : Option Faulty) (place : Place) (s : IsSearchingOf image facts entry frames places leaps least) (next : slice_get places (length leaps) ≡ Some place) where
+module _ (image : Image) (facts : List Fact) (entry : ℕ) (frames : List Frame) (places : List Place) (leaps : List (List Leap)) (least : Option Faulty) (place : Place) (s : IsSearchingOf image facts entry frames places leaps least) (next : slice_get places (length leaps) ≡ Some place) where
   abbrev steps : Position → List Step
   steps = steps_of image facts entry
 
@@ -47,7 +47,7 @@ module _ (image : Image) (facts : List Fact) (entry : ℕ) (frames : List Frame)
   here_is = zip_right (IsAt entry frames) places s.ps (length leaps) place s.found.placed next
 
   -- a faulty one
-  module _ (fault : Fault) (turns : AreTurns image facts frames place (Err fault)) (v : Vec Leap Global) (empty : v.items ≡ []) (more : Option Faulty) (least_more : (gs : List Faulty) → IsLeast gs least → IsLeast (gs ++ (record { at = place.pc; fault = fault }) ∷ []) more) where
+  module _ (own_turns : List Turn) (fault : Fault) (turns : AreTurns image facts frames place own_turns (Some fault)) (v : List Leap) (empty : v ≡ []) (more : Option Faulty) (least_more : (gs : List Faulty) → IsLeast gs least → IsLeast (gs ++ (record { at = place.pc; fault = fault }) ∷ []) more) where
     abbrev faulty_now : Faulty
     faulty_now = record { at = place.pc; fault = fault }
 
@@ -65,7 +65,7 @@ module _ (image : Image) (facts : List Fact) (entry : ℕ) (frames : List Frame)
           (λ (old : slice_get leaps k ≡ Some w). s.expanded k w q old at_q)
           (λ (last : (k ≡ length leaps) × (v ≡ w)).
           let one : here_is.0 ≡ q = same_Some here_is.0 q (sym here_is.1 ∙ ap (slice_get s.ps) (sym last.0) ∙ at_q) in
-          subst (λ (xs : List Leap). AllZip (Lands s.ps) xs (steps q)) (sym empty ∙ ap (λ (x : Vec Leap Global). x.items) last.1) (subst (λ (xs : List Step). AllZip (Lands s.ps) [] xs) (sym no_steps ∙ ap steps one) tt))
+          subst (λ (xs : List Leap). AllZip (Lands s.ps) xs (steps q)) (sym empty ∙ last.1) (subst (λ (xs : List Step). AllZip (Lands s.ps) [] xs) (sym no_steps ∙ ap steps one) tt))
           (get_push_cases leaps v k w at_w);
       fits = omega (arith, length_push leaps v, slice_get_within s.ps (length leaps) here_is.0 here_is.1);
       faults = s.faults ++ faulty_now ∷ [];
@@ -86,19 +86,19 @@ module _ (image : Image) (facts : List Fact) (entry : ℕ) (frames : List Frame)
     }
 
   -- another one, with its ways
-  module _ (turns : Vec Turn Global) (are : AreTurns image facts frames place (Ok turns)) where
+  module _ (turns : List Turn) (are : AreTurns image facts frames place turns None) where
     sound_now : fault_at image facts entry here_is.0 ≡ None
     sound_now = (are entry here_is.0 here_is.2).0
 
-    pub ways_now : HasWays steps entry frames places s.ps place turns.items (length leaps) here_is.0
+    pub ways_now : HasWays steps entry frames places s.ps place turns (length leaps) here_is.0
     ways_now = record {
       found = s.found;
       numbered = here_is.1;
       at = here_is.2;
-      ways = λ t among. subst (λ (xs : List Step). Contains xs (along here_is.0 t)) (sym (are entry here_is.0 here_is.2).1) (contains_map (along here_is.0) turns.items t among);
+      ways = λ t among. subst (λ (xs : List Step). Contains xs (along here_is.0 t)) (sym (are entry here_is.0 here_is.2).1) (contains_map (along here_is.0) turns t among);
     }
 
-    pub added : (new_frames : List Frame) (new_places : List Place) (v : Vec Leap Global) → IsFollowed steps entry new_frames new_places s.ps v.items (map (along here_is.0) turns.items) → IsSearchingOf image facts entry new_frames new_places (leaps ++ v ∷ []) least
+    pub added : (new_frames : List Frame) (new_places : List Place) (v : List Leap) → IsFollowed steps entry new_frames new_places s.ps v (map (along here_is.0) turns) → IsSearchingOf image facts entry new_frames new_places (leaps ++ v ∷ []) least
     added new_frames new_places v followed =
         let within : length leaps < length s.ps = slice_get_within s.ps (length leaps) here_is.0 here_is.1 in
         record {
@@ -108,11 +108,11 @@ module _ (image : Image) (facts : List Fact) (entry : ℕ) (frames : List Frame)
               (λ (old : slice_get leaps k ≡ Some w).
               let less : k < length leaps = slice_get_within leaps k w old in
               let was = before k q (omega (arith, less, within)) at_q in
-              zip_so (Lands s.ps) (Lands followed.more) (lands_kept s.ps followed.more followed.stays) w.items (steps q) (s.expanded k w q old was))
+              zip_so (Lands s.ps) (Lands followed.more) (lands_kept s.ps followed.more followed.stays) w (steps q) (s.expanded k w q old was))
               (λ (last : (k ≡ length leaps) × (v ≡ w)).
               let was = before k q (omega (arith, last.0, within)) at_q in
               let one : here_is.0 ≡ q = same_Some here_is.0 q (sym here_is.1 ∙ ap (slice_get s.ps) (sym last.0) ∙ was) in
-              subst (λ (x : Vec Leap Global). AllZip (Lands followed.more) x.items (steps q)) last.1 (subst (λ (x : Position). AllZip (Lands followed.more) v.items (steps x)) one (subst (λ (xs : List Step). AllZip (Lands followed.more) v.items xs) (sym (are entry here_is.0 here_is.2).1) followed.lands)))
+              subst (λ (x : List Leap). AllZip (Lands followed.more) x (steps q)) last.1 (subst (λ (x : Position). AllZip (Lands followed.more) v (steps x)) one (subst (λ (xs : List Step). AllZip (Lands followed.more) v xs) (sym (are entry here_is.0 here_is.2).1) followed.lands)))
               (get_push_cases leaps v k w at_w);
           fits = omega (arith, length_push leaps v, within, kept_length s.ps followed.more followed.stays);
           faults = s.faults;
@@ -135,34 +135,34 @@ module _ (image : Image) (facts : List Fact) (entry : ℕ) (frames : List Frame)
             found.1 ∙ ap Some (same_Some found.0 q (sym (followed.stays k found.0 found.1) ∙ at_q))
 
 -- the next position of a search
-module _ (image : Image) (stated : Stated) (old : Search) (opened : Opened) (place : Place) (ready : IsReady old) (next : slice_get old.code.places.keys (length old.code.leaps.items) ≡ Some place) (opened_are : AreOpened old.code.frames.keys opened) where
-  pub skip_on : (new : Search) (fault : Fault) → ((facts : List Fact) → AreStated facts stated → AreTurns image facts old.code.frames.keys place (Err fault)) → HasSkipped (record { code = old.code; opened = opened; least = old.least }) new place.pc fault → HasSearched image stated old new true
-  skip_on new fault turns has = (
+module _ (image : Image) (stated : Stated) (old : Search) (opened : Opened) (place : Place) (ready : IsReady old) (next : slice_get old.code.places.keys (length old.code.leaps) ≡ Some place) (opened_are : AreOpened old.code.frames.keys opened) where
+  pub skip_on : (new : Search) (own_turns : List Turn) (fault : Fault) → ((facts : List Fact) → AreStated facts stated → AreTurns image facts old.code.frames.keys place own_turns (Some fault)) → HasSkipped (record { code = old.code; opened = opened; least = old.least }) new place.pc fault → HasSearched image stated old new true
+  skip_on new own_turns fault turns has = (
     record {
       code = subst (λ (fs : List Frame). IsCodeOf fs new.code.places.keys) (sym has.frames) (subst (λ (xs : List Place). IsCodeOf old.code.frames.keys xs) (sym has.places) ready.code);
       few = omega (arith, ready.few, ap length has.places);
       opened = subst (λ (fs : List Frame). AreOpened fs new.opened) (sym has.frames) (subst (AreOpened old.code.frames.keys) (sym has.opened) opened_are);
     },
-    ap length has.leaps ∙ length_push old.code.leaps.items has.none,
-    λ facts entry are s. subst (λ (fs : List Frame). IsSearchingOf image facts entry fs new.code.places.keys new.code.leaps.items new.least) (sym has.frames)
-        (subst (λ (xs : List Place). IsSearchingOf image facts entry old.code.frames.keys xs new.code.leaps.items new.least) (sym has.places)
-        (subst (λ (vs : List (Vec Leap Global)). IsSearchingOf image facts entry old.code.frames.keys old.code.places.keys vs new.least) (sym has.leaps)
-        (skipped image facts entry old.code.frames.keys old.code.places.keys old.code.leaps.items old.least place s next fault (turns facts are) has.none has.empty new.least has.least))),
+    ap length has.leaps ∙ length_push old.code.leaps [],
+    λ facts entry are s. subst (λ (fs : List Frame). IsSearchingOf image facts entry fs new.code.places.keys new.code.leaps new.least) (sym has.frames)
+        (subst (λ (xs : List Place). IsSearchingOf image facts entry old.code.frames.keys xs new.code.leaps new.least) (sym has.places)
+        (subst (λ (vs : List (List Leap)). IsSearchingOf image facts entry old.code.frames.keys old.code.places.keys vs new.least) (sym has.leaps)
+        (skipped image facts entry old.code.frames.keys old.code.places.keys old.code.leaps old.least place s next own_turns fault (turns facts are) [] refl new.least has.least))),
   )
 
-  pub add_on : (new : Search) (turns : Vec Turn Global) (more : Bool) → ((facts : List Fact) → AreStated facts stated → AreTurns image facts old.code.frames.keys place (Ok turns)) → AddsTurns (record { code = old.code; opened = opened; least = old.least }) new place turns.items more → HasSearched image stated old new more
-  add_on new turns false are full = λ facts entry told s. full (steps_of image facts entry) entry s.ps (length old.code.leaps.items) (here_is image facts entry old.code.frames.keys old.code.places.keys old.code.leaps.items old.least place s next).0 (ways_now image facts entry old.code.frames.keys old.code.places.keys old.code.leaps.items old.least place s next turns (are facts told))
+  pub add_on : (new : Search) (turns : List Turn) (more : Bool) → ((facts : List Fact) → AreStated facts stated → AreTurns image facts old.code.frames.keys place turns None) → AddsTurns (record { code = old.code; opened = opened; least = old.least }) new place turns more → HasSearched image stated old new more
+  add_on new turns false are full = λ facts entry told s. full (steps_of image facts entry) entry s.ps (length old.code.leaps) (here_is image facts entry old.code.frames.keys old.code.places.keys old.code.leaps old.least place s next).0 (ways_now image facts entry old.code.frames.keys old.code.places.keys old.code.leaps old.least place s next turns (are facts told))
   add_on new turns true are has = (
     record {
       code = has.expanded.turned.is;
       few = has.expanded.few;
       opened = subst (AreOpened new.code.frames.keys) (sym has.opened) (opened_kept old.code.frames.keys new.code.frames.keys opened.branches.items opened.roots.items has.expanded.turned.stays (kept_length old.code.frames.keys new.code.frames.keys has.expanded.turned.stays) opened_are);
     },
-    ap length has.leaps ∙ length_push old.code.leaps.items has.more,
-    λ facts entry told s. subst (λ (least : Option Faulty). IsSearchingOf image facts entry new.code.frames.keys new.code.places.keys new.code.leaps.items least) (sym has.least)
-        (subst (λ (vs : List (Vec Leap Global)). IsSearchingOf image facts entry new.code.frames.keys new.code.places.keys vs old.least) (sym has.leaps)
-        (added image facts entry old.code.frames.keys old.code.places.keys old.code.leaps.items old.least place s next turns (are facts told) new.code.frames.keys new.code.places.keys has.more
-        (has.expanded.turned.follows (steps_of image facts entry) entry s.ps (length old.code.leaps.items) (here_is image facts entry old.code.frames.keys old.code.places.keys old.code.leaps.items old.least place s next).0 (ways_now image facts entry old.code.frames.keys old.code.places.keys old.code.leaps.items old.least place s next turns (are facts told))))),
+    ap length has.leaps ∙ length_push old.code.leaps has.more,
+    λ facts entry told s. subst (λ (least : Option Faulty). IsSearchingOf image facts entry new.code.frames.keys new.code.places.keys new.code.leaps least) (sym has.least)
+        (subst (λ (vs : List (List Leap)). IsSearchingOf image facts entry new.code.frames.keys new.code.places.keys vs old.least) (sym has.leaps)
+        (added image facts entry old.code.frames.keys old.code.places.keys old.code.leaps old.least place s next turns (are facts told) new.code.frames.keys new.code.places.keys has.more
+        (has.expanded.turned.follows (steps_of image facts entry) entry s.ps (length old.code.leaps) (here_is image facts entry old.code.frames.keys old.code.places.keys old.code.leaps old.least place s next).0 (ways_now image facts entry old.code.frames.keys old.code.places.keys old.code.leaps old.least place s next turns (are facts told))))),
   )
 
 -- the start
@@ -197,7 +197,7 @@ starts entry code opened new none = record {
       first = refl;
       reached = λ k p at. subst (λ (x : Position). Reaches (LeadsBy (steps_of image facts entry)) (start_of entry) x) (one k (start_of entry) p at) here;
     };
-    expanded = λ k v p at_v at_p. absurd (none-some v (subst (λ (vs : List (Vec Leap Global)). slice_get vs k ≡ Some v) new.leaps at_v));
+    expanded = λ k v p at_v at_p. absurd (none-some v (subst (λ (vs : List (List Leap)). slice_get vs k ≡ Some v) new.leaps at_v));
     fits = omega (arith, ap length new.leaps);
     faults = [];
     is_least = refl;

@@ -1,7 +1,7 @@
 -- One step more, found from its target.
-use Rattle.std.proofs.Common.{ℕ, zero, suc, ◌≡◌, ◌≢◌, ◌+◌, ◌<◌, ◌⊎◌, inl, inr, ⊎_elim, List, [], ◌∷◌, ◌++◌, map, Option, None, Some, Vec, Global, length, set, refl, sym, ap, subst, ◌∙◌, arith, append_assoc, append-nil}
+use Rattle.std.proofs.Common.{ℕ, zero, suc, ◌≡◌, ◌≢◌, ◌+◌, ◌<◌, ◌⊎◌, inl, inr, ⊎_elim, List, [], ◌∷◌, ◌++◌, map, Option, None, Some, length, set, replicate, refl, sym, ap, subst, ◌∙◌, arith, append_assoc, append-nil}
 use Rattle.std.specs.List.{slice_get}
-use Rattle.std.proofs.lemmas.List.{length-set}
+use Rattle.std.proofs.lemmas.List.{length-set, length-replicate}
 use Rattle.std.proofs.lemmas.Option.{none-some, same_Some, slice_get_within}
 use Rattle.wc_model.proofs.Places.{get_set_cases}
 use Rattle.wc_graph.specs.declared.frames.Leap.{Leap}
@@ -9,13 +9,14 @@ use Rattle.wc_graph.specs.declared.sources.Sources.{Sources}
 use Rattle.wc_graph.specs.Inner.Lists.{Has, Inside}
 use Rattle.wc_graph.specs.Inner.Spreads.{AllInside}
 use Rattle.wc_graph.specs.Inner.Sources.{AreSources, Edge, edge_of, edges_from}
+use Rattle.wc_graph.proofs.ListLemmas.{get_filled}
 use Rattle.wc_graph.proofs.RisingLemmas.{has_append, append_has, has_map, map_has}
 
-pub sources_empty : (count : ℕ) (s : Sources) → length s.into.items ≡ count → ((t : ℕ) (v : Vec ℕ Global) → slice_get s.into.items t ≡ Some v → v.items ≡ []) → s.exits.items ≡ [] → AreSources count [] s
-sources_empty count s counted none exits = record {
-  counted = counted;
+pub sources_empty : (count : ℕ) (s : Sources) → s.into ≡ replicate count [] → s.exits.items ≡ [] → AreSources count [] s
+sources_empty count s empty exits = record {
+  counted = ap length empty ∙ length-replicate count [];
   exits = λ k. (λ has. subst (λ (xs : List ℕ). Has xs k) exits has, λ has. absurd has);
-  into = λ t v at k. (λ has. subst (λ (xs : List ℕ). Has xs k) (none t v at) has, λ has. absurd has);
+  into = λ t v at k. (λ has. subst (λ (xs : List ℕ). Has xs k) (get_filled count t [] v (subst (λ (xs : List (List ℕ)). slice_get xs t ≡ Some v) empty at)) has, λ has. absurd has);
 }
 
 edge_more : (edges : List Edge) (e f : Edge) → Has (edges ++ e ∷ []) f → Has edges f ⊎ (e ≡ f)
@@ -39,7 +40,7 @@ module _ (count : ℕ) (edges : List Edge) (old new : Sources) (source : ℕ) (a
   kept : (t : Option ℕ) (f : Edge) → Has edges f → Has (edges ++ edge_to t ∷ []) f
   kept t f has = append_has edges (edge_to t ∷ []) f (inl has)
 
-  pub exit_more : new.exits.items ≡ old.exits.items ++ source ∷ [] → new.into.items ≡ old.into.items → AreSources count (edges ++ edge_to None ∷ []) new
+  pub exit_more : new.exits.items ≡ old.exits.items ++ source ∷ [] → new.into ≡ old.into → AreSources count (edges ++ edge_to None ∷ []) new
   exit_more exits into = record {
     counted = ap length into ∙ are.counted;
     exits = λ k. (
@@ -53,7 +54,7 @@ module _ (count : ℕ) (edges : List Edge) (old new : Sources) (source : ℕ) (a
           (edge_more edges (edge_to None) (k, None) has))),
     );
     into = λ t v at k.
-        let was = are.into t v (subst (λ (xs : List (Vec ℕ Global)). slice_get xs t ≡ Some v) into at) k in (
+        let was = are.into t v (subst (λ (xs : List (List ℕ)). slice_get xs t ≡ Some v) into at) k in (
           λ has. kept None (k, Some t) (was.0 has),
           λ has. was.1 (⊎_elim
               (λ (old_has : Has edges (k, Some t)). old_has)
@@ -62,9 +63,9 @@ module _ (count : ℕ) (edges : List Edge) (old new : Sources) (source : ℕ) (a
         );
   }
 
-  pub into_more : (target : ℕ) (v w : Vec ℕ Global) → slice_get old.into.items target ≡ Some v → w.items ≡ v.items ++ source ∷ [] → new.into.items ≡ set old.into.items target w → new.exits.items ≡ old.exits.items → AreSources count (edges ++ edge_to (Some target) ∷ []) new
-  into_more target v w at_v more into exits = record {
-    counted = ap length into ∙ length-set old.into.items target w ∙ are.counted;
+  pub into_more : (target : ℕ) (v : List ℕ) → slice_get old.into target ≡ Some v → new.into ≡ set old.into target (source ∷ v) → new.exits.items ≡ old.exits.items → AreSources count (edges ++ edge_to (Some target) ∷ []) new
+  into_more target v at_v into exits = record {
+    counted = ap length into ∙ length-set old.into target (source ∷ v) ∙ are.counted;
     exits = λ k. (
       λ has. kept (Some target) (k, None) ((are.exits k).0 (subst (λ (xs : List ℕ). Has xs k) exits has)),
       λ has. subst (λ (xs : List ℕ). Has xs k) (sym exits) ((are.exits k).1 (⊎_elim
@@ -73,19 +74,18 @@ module _ (count : ℕ) (edges : List Edge) (old new : Sources) (source : ℕ) (a
           (edge_more edges (edge_to (Some target)) (k, None) has))),
     );
     into = λ t u at k. ⊎_elim
-        (λ (here : (t ≡ target) × (w ≡ u)).
-        let items : v.items ++ source ∷ [] ≡ u.items = sym more ∙ ap (λ (x : Vec ℕ Global). x.items) here.1 in
+        (λ (here : (t ≡ target) × ((source ∷ v) ≡ u)).
         let was = are.into target v at_v k in (
           λ has. ⊎_elim
-              (λ (old_has : Has v.items k). kept (Some target) (k, Some t) (subst (λ (i : ℕ). Has edges (k, Some i)) (sym here.0) (was.0 old_has)))
               (λ (same : source ≡ k). append_has edges (edge_to (Some target) ∷ []) (k, Some t) (inr (inl (pair_same source k target t same (sym here.0)))))
-              (number_more v.items source k (subst (λ (xs : List ℕ). Has xs k) (sym items) has)),
-          λ has. subst (λ (xs : List ℕ). Has xs k) items (append_has v.items (source ∷ []) k (⊎_elim
-              (λ (old_has : Has edges (k, Some t)). inl (was.1 (subst (λ (i : ℕ). Has edges (k, Some i)) here.0 old_has)))
-              (λ (same : edge_to (Some target) ≡ (k, Some t)). inr (inl (ap (λ (e : Edge). e.0) same)))
-              (edge_more edges (edge_to (Some target)) (k, Some t) has))),
+              (λ (old_has : Has v k). kept (Some target) (k, Some t) (subst (λ (i : ℕ). Has edges (k, Some i)) (sym here.0) (was.0 old_has)))
+              (subst (λ (xs : List ℕ). Has xs k) (sym here.1) has),
+          λ has. subst (λ (xs : List ℕ). Has xs k) here.1 (⊎_elim
+              (λ (old_has : Has edges (k, Some t)). inr (was.1 (subst (λ (i : ℕ). Has edges (k, Some i)) here.0 old_has)))
+              (λ (same : edge_to (Some target) ≡ (k, Some t)). inl (ap (λ (e : Edge). e.0) same))
+              (edge_more edges (edge_to (Some target)) (k, Some t) has)),
         ))
-        (λ (other : (t ≢ target) × (slice_get old.into.items t ≡ Some u)).
+        (λ (other : (t ≢ target) × (slice_get old.into t ≡ Some u)).
         let was = are.into t u other.1 k in (
           λ has. kept (Some target) (k, Some t) (was.0 has),
           λ has. was.1 (⊎_elim
@@ -93,58 +93,58 @@ module _ (count : ℕ) (edges : List Edge) (old new : Sources) (source : ℕ) (a
               (λ (same : edge_to (Some target) ≡ (k, Some t)). absurd (other.0 (sym (same_Some target t (ap (λ (e : Edge). e.1) same)))))
               (edge_more edges (edge_to (Some target)) (k, Some t) has)),
         ))
-        (get_set_cases old.into.items target t w u (subst (λ (xs : List (Vec ℕ Global)). slice_get xs t ≡ Some u) into at));
+        (get_set_cases old.into target t (source ∷ v) u (subst (λ (xs : List (List ℕ)). slice_get xs t ≡ Some u) into at));
   }
     where
       pair_same : (a b c d : ℕ) → a ≡ b → c ≡ d → ◌≡◌ {A = Edge} (a, Some c) (b, Some d)
       pair_same a b c d one two = ap (λ (n : ℕ). (n, Some c)) one ∙ ap (λ (n : ℕ). (b, Some n)) two
 
 -- the steps of several positions
-pub edges_push : (n m : ℕ) (xs : List (Vec Leap Global)) (v : Vec Leap Global) → m ≡ n + length xs → edges_from n (xs ++ v ∷ []) ≡ edges_from n xs ++ map (edge_of m) v.items
-edges_push n m [] v is = append-nil (map (edge_of n) v.items) ∙ ap (λ (i : ℕ). map (edge_of i) v.items) (sym (omega (arith, is)))
+pub edges_push : (n m : ℕ) (xs : List (List Leap)) (v : List Leap) → m ≡ n + length xs → edges_from n (xs ++ v ∷ []) ≡ edges_from n xs ++ map (edge_of m) v
+edges_push n m [] v is = append-nil (map (edge_of n) v) ∙ ap (λ (i : ℕ). map (edge_of i) v) (sym (omega (arith, is)))
 edges_push n m (x ∷ xs) v is =
-    ap (λ (es : List Edge). map (edge_of n) x.items ++ es) (edges_push (n + 1) m xs v (omega (arith, is)))
-    ∙ sym (append_assoc (map (edge_of n) x.items) (edges_from (n + 1) xs) (map (edge_of m) v.items))
+    ap (λ (es : List Edge). map (edge_of n) x ++ es) (edges_push (n + 1) m xs v (omega (arith, is)))
+    ∙ sym (append_assoc (map (edge_of n) x) (edges_from (n + 1) xs) (map (edge_of m) v))
 
 -- a step stands among those of its source
-pub record IsLeapOf (leaps : List (Vec Leap Global)) (k : ℕ) (target : Option ℕ) : Type 0 where
-  pub own : Vec Leap Global
+pub record IsLeapOf (leaps : List (List Leap)) (k : ℕ) (target : Option ℕ) : Type 0 where
+  pub own : List Leap
   pub at : slice_get leaps k ≡ Some own
   pub leap : Leap
-  pub among : Has own.items leap
+  pub among : Has own leap
   pub to : leap.target ≡ target
 
-pub edge_leap : (n : ℕ) (leaps : List (Vec Leap Global)) (k : ℕ) (t : Option ℕ) → Has (edges_from n leaps) (k, t) → (j : ℕ) × (k ≡ n + j) × IsLeapOf leaps j t
+pub edge_leap : (n : ℕ) (leaps : List (List Leap)) (k : ℕ) (t : Option ℕ) → Has (edges_from n leaps) (k, t) → (j : ℕ) × (k ≡ n + j) × IsLeapOf leaps j t
 edge_leap n [] k t has = absurd has
 edge_leap n (v ∷ leaps) k t has = ⊎_elim
-    (λ (here : Has (map (edge_of n) v.items) (k, t)).
-    let from = has_map (edge_of n) v.items (k, t) here in
+    (λ (here : Has (map (edge_of n) v) (k, t)).
+    let from = has_map (edge_of n) v (k, t) here in
     (0, omega (arith, ap (λ (e : Edge). e.0) from.2), record { own = v; at = refl; leap = from.0; among = from.1; to = ap (λ (e : Edge). e.1) from.2 }))
     (λ (later : Has (edges_from (n + 1) leaps) (k, t)).
     let from = edge_leap (n + 1) leaps k t later in
     (suc from.0, omega (arith, from.1), record { own = from.2.own; at = from.2.at; leap = from.2.leap; among = from.2.among; to = from.2.to }))
-    (has_append (map (edge_of n) v.items) (edges_from (n + 1) leaps) (k, t) has)
+    (has_append (map (edge_of n) v) (edges_from (n + 1) leaps) (k, t) has)
 
-pub leap_edge : (n : ℕ) (leaps : List (Vec Leap Global)) (j : ℕ) (t : Option ℕ) (own : Vec Leap Global) (leap : Leap) → slice_get leaps j ≡ Some own → Has own.items leap → leap.target ≡ t → Has (edges_from n leaps) (n + j, t)
+pub leap_edge : (n : ℕ) (leaps : List (List Leap)) (j : ℕ) (t : Option ℕ) (own : List Leap) (leap : Leap) → slice_get leaps j ≡ Some own → Has own leap → leap.target ≡ t → Has (edges_from n leaps) (n + j, t)
 leap_edge n [] j t own leap at among to = absurd (none-some own at)
 leap_edge n (v ∷ leaps) zero t own leap at among to =
-    append_has (map (edge_of n) v.items) (edges_from (n + 1) leaps) (n + 0, t) (inl (subst (λ (e : Edge). Has (map (edge_of n) v.items) e) (pair (omega arith) to) (map_has (edge_of n) v.items leap (subst (λ (x : Vec Leap Global). Has x.items leap) (sym (same_Some v own at)) among))))
+    append_has (map (edge_of n) v) (edges_from (n + 1) leaps) (n + 0, t) (inl (subst (λ (e : Edge). Has (map (edge_of n) v) e) (pair (omega arith) to) (map_has (edge_of n) v leap (subst (λ (x : List Leap). Has x leap) (sym (same_Some v own at)) among))))
   where
     pair : n ≡ n + 0 → leap.target ≡ t → ◌≡◌ {A = Edge} (n, leap.target) (n + 0, t)
     pair one two = ap (λ (i : ℕ). (i, leap.target)) one ∙ ap (λ (o : Option ℕ). (n + 0, o)) two
 leap_edge n (v ∷ leaps) (suc j) t own leap at among to =
-    append_has (map (edge_of n) v.items) (edges_from (n + 1) leaps) (n + suc j, t) (inr (subst (λ (i : ℕ). Has (edges_from (n + 1) leaps) (i, t)) (omega arith) (leap_edge (n + 1) leaps j t own leap at among to)))
+    append_has (map (edge_of n) v) (edges_from (n + 1) leaps) (n + suc j, t) (inr (subst (λ (i : ℕ). Has (edges_from (n + 1) leaps) (i, t)) (omega arith) (leap_edge (n + 1) leaps j t own leap at among to)))
 
 -- sources are among the positions
-module _ (leaps : List (Vec Leap Global)) (s : Sources) (are : AreSources (length leaps) (edges_from 0 leaps) s) where
-  edge_inside : (k : ℕ) (t : Option ℕ) → Has (edges_from 0 leaps) (k, t) → k < length s.into.items
+module _ (leaps : List (List Leap)) (s : Sources) (are : AreSources (length leaps) (edges_from 0 leaps) s) where
+  edge_inside : (k : ℕ) (t : Option ℕ) → Has (edges_from 0 leaps) (k, t) → k < length s.into
   edge_inside k t has =
       let leap = edge_leap 0 leaps k t has in
       let less : leap.0 < length leaps = slice_get_within leaps leap.0 leap.2.own leap.2.at in
       omega (arith, less, leap.1, are.counted)
 
-  pub sources_inside : AllInside s.into.items
+  pub sources_inside : AllInside s.into
   sources_inside t v at k has = edge_inside k (Some t) ((are.into t v at k).0 has)
 
-  pub exits_inside : Inside (length s.into.items) s.exits.items
+  pub exits_inside : Inside (length s.into) s.exits.items
   exits_inside k has = edge_inside k None ((are.exits k).0 has)

@@ -1,5 +1,5 @@
 -- Marks spread along lists of neighbours.
-use Rattle.std.proofs.Common.{ℕ, zero, suc, ◌≡◌, ◌≢◌, ◌+◌, ◌<◌, ◌⊎◌, inl, inr, ⊎_elim, Bool, true, false, List, [], ◌∷◌, ◌++◌, Some, Vec, Global, length, set, get_or, refl, sym, ap, subst, ◌∙◌, arith}
+use Rattle.std.proofs.Common.{ℕ, zero, suc, ◌≡◌, ◌≢◌, ◌+◌, ◌<◌, ◌⊎◌, inl, inr, ⊎_elim, Bool, true, false, List, [], ◌∷◌, ◌++◌, Some, length, set, get_or, refl, sym, ap, subst, ◌∙◌, arith}
 use Rattle.std.specs.List.{slice_get}
 use Rattle.std.proofs.lemmas.List.{length_push, length-set}
 use Rattle.std.proofs.lemmas.Option.{none-some, same_Some, slice_get_within}
@@ -97,7 +97,7 @@ marks_one old new n at marks work = record {
     one k (inr none) = absurd none
 
 -- the search
-module _ (into : List (Vec ℕ Global)) (from : List ℕ) where
+module _ (into : List (List ℕ)) (from : List ℕ) where
   pub spread_begins : (old new : Marked) → IsUnmarked (length into) old → Marks from old new → IsSpreading into from new
   spread_begins old new none marks = record {
     count = marks.count ∙ none.counted;
@@ -111,12 +111,12 @@ module _ (into : List (Vec ℕ Global)) (from : List ℕ) where
       new_of k is = ⊎_elim (λ (was : IsMarked old.marks.items k). absurd (none.none k was)) (λ (has : Has from k). has) (marks.from k is)
 
   -- the neighbours of one that waited are marked
-  pub spread_on : (old mid new : Marked) (n : ℕ) (v : Vec ℕ Global) → mid.marks.items ≡ old.marks.items → old.work.items ≡ mid.work.items ++ n ∷ [] → slice_get into n ≡ Some v → IsSpreading into from old → Marks v.items mid new → IsSpreading into from new
+  pub spread_on : (old mid new : Marked) (n : ℕ) (v : List ℕ) → mid.marks.items ≡ old.marks.items → old.work.items ≡ mid.work.items ++ n ∷ [] → slice_get into n ≡ Some v → IsSpreading into from old → Marks v mid new → IsSpreading into from new
   spread_on old mid new n v same work at s marks = record {
     count = marks.count ∙ ap length same ∙ s.count;
     sound = λ k is. ⊎_elim
         (λ (was : IsMarked mid.marks.items k). s.sound k (back k was))
-        (λ (has : Has v.items k). goes k v (s.sound n n_marked) at has)
+        (λ (has : Has v k). goes k v (s.sound n n_marked) at has)
         (marks.from k is);
     started = λ k has. marks.stays k (forth k (s.started k has));
     closed = λ k j w is at_k has. ⊎_elim
@@ -131,7 +131,7 @@ module _ (into : List (Vec ℕ Global)) (from : List ℕ) where
         (marks.waits k is);
     waiting = λ k waits. ⊎_elim
         (λ (was : Has mid.work.items k). marks.stays k (forth k (s.waiting k (subst (λ (xs : List ℕ). Has xs k) (sym work) (append_has mid.work.items (n ∷ []) k (inl was))))))
-        (λ (has : Has v.items k). marks.all k has)
+        (λ (has : Has v k). marks.all k has)
         (marks.work_from k waits);
   }
     where
@@ -144,8 +144,8 @@ module _ (into : List (Vec ℕ Global)) (from : List ℕ) where
       n_marked : IsMarked old.marks.items n
       n_marked = s.waiting n (subst (λ (xs : List ℕ). Has xs n) (sym work) (append_has mid.work.items (n ∷ []) n (inr (inl refl))))
 
-      own : (k j : ℕ) (w : Vec ℕ Global) → (n ≡ k) ⊎ ⊥ → slice_get into k ≡ Some w → Has w.items j → IsMarked new.marks.items j
-      own k j w (inl here) at_k has = marks.all j (subst (λ (x : Vec ℕ Global). Has x.items j) (same_Some w v (sym at_k ∙ ap (slice_get into) (sym here) ∙ at)) has)
+      own : (k j : ℕ) (w : List ℕ) → (n ≡ k) ⊎ ⊥ → slice_get into k ≡ Some w → Has w j → IsMarked new.marks.items j
+      own k j w (inl here) at_k has = marks.all j (subst (λ (x : List ℕ). Has x j) (same_Some w v (sym at_k ∙ ap (slice_get into) (sym here) ∙ at)) has)
       own k j w (inr none) at_k has = absurd none
 
   module _ (marked : Marked) (rests : marked.work.items ≡ []) (s : IsSpreading into from marked) where
@@ -166,5 +166,5 @@ pub no_rest : (xs : List ℕ) (n : ℕ) → n ≡ length xs → (0 < n → false
 no_rest [] n count none = refl
 no_rest (x ∷ xs) n count none = absurd (false≢true (none (omega (arith, count))))
 
-pub number_within : (into : List (Vec ℕ Global)) (from : List ℕ) (marked : Marked) (n : ℕ) → IsSpreading into from marked → Has marked.work.items n → n < length into
+pub number_within : (into : List (List ℕ)) (from : List ℕ) (marked : Marked) (n : ℕ) → IsSpreading into from marked → Has marked.work.items n → n < length into
 number_within into from marked n s has = let less : n < length marked.marks.items = slice_get_within marked.marks.items n true (s.waiting n has) in omega (arith, less, s.count)

@@ -9,6 +9,12 @@ pub mod Ways
 pub mod Faults
 pub mod Searches
 pub mod Lists
+pub mod Found
+pub mod Places
+pub mod Finds
+pub mod Ranked
+pub mod Buckets
+pub mod Rows
 pub mod Spreads
 pub mod Sources
 pub mod Orders

@@ -1,5 +1,4 @@
-ghost use Rattle.std.specs.Prelude.{◌≡◌, ◌<◌, ◌≤◌, IfOk, IfSome, List, Vec, length, map, option_and_then};
-ghost use Rattle.std.specs.Global.{Global};
+ghost use Rattle.std.specs.Prelude.{◌≡◌, ◌<◌, ◌≤◌, IfOk, IfSome, List, length, map, option_and_then};
 ghost use Rattle.std.specs.List.{flat_map};
 ghost use Rattle.wc_model.specs.Program.Steps.{insn_at};
 ghost use Rattle.wc_graph.specs.declared.frames.Leap.{Leap};
@@ -10,6 +9,7 @@ ghost use Rattle.wc_graph.specs.Inner.Ordered.{AreWithin, rank_at};
 ghost use Rattle.wc_graph.specs.Inner.Sources.{AreTargets};
 
 use crate::frames::{Frame, Leap, Place};
+use crate::rows::Rows;
 use std::alloc::{AllocError, Global};
 use wc_a32::insn;
 use wc_base::Addr;
@@ -35,7 +35,7 @@ pub fn contexts(
     requires count { length ranks.now ≡ length frames.now }
     ensures { IfOk result (λ v. v.items ≡ map (context_of frames.now ranks.now) listed.now) }
 {
-    let mut contexts = Vec::new(alloc);
+    let mut contexts = Vec::with_capacity(alloc, listed.len())?;
     for number in listed {
         let frame = frames[*number as usize];
         contexts.push(Context {
@@ -85,7 +85,7 @@ pub fn nodes(
     requires ranks { AreWithin (length ranks.now) places.now }
     ensures { IfOk result (λ v. v.items ≡ flat_map (node_of image.now places.now ranks.now) order.now) }
 {
-    let mut nodes = Vec::new(alloc);
+    let mut nodes = Vec::with_capacity(alloc, order.len())?;
     for number in order {
         let place = places[*number as usize];
         push_node(&mut nodes, image, place.pc, ranks[place.frame as usize])?;
@@ -141,18 +141,18 @@ fn push_steps(
 /// The steps of the nodes in order, with their new numbers.
 pub fn steps(
     alloc: Global,
-    leaps: &[Vec<Leap>],
+    leaps: &Rows,
     order: &[u32],
     numbers: &[Option<u32>],
 ) -> Result<Vec<Step>, AllocError>
     requires few { length order.now ≤ 100000 }
     requires inside { Inside (length leaps.now) order.now }
-    requires targets { (v : Vec Leap Global) → Has leaps.now v → AreTargets (length numbers.now) v.items }
+    requires targets { (own : List Leap) → Has leaps.now own → AreTargets (length numbers.now) own }
     ensures { IfOk result (λ v. v.items ≡ steps_from leaps.now numbers.now 0 order.now) }
 {
-    let mut steps = Vec::new(alloc);
+    let mut steps = Vec::with_capacity(alloc, order.len())?;
     for source in 0..order.len() {
-        let own = leaps[order[source] as usize].as_slice();
+        let own = leaps.row(order[source] as usize);
         push_steps(&mut steps, source as u32, own, numbers)?;
     }
     Ok(steps)

@@ -39,7 +39,7 @@ fn assemble(
         ranks,
     )?;
     let nodes = nodes(alloc, image, survey.code.places.as_slice(), order, ranks)?;
-    let steps = steps(alloc, survey.code.leaps.as_slice(), order, numbers)?;
+    let steps = steps(alloc, &survey.code.leaps, order, numbers)?;
     if ABOVE <= steps.len() {
         return Err(AllocError);
     }

@@ -3,7 +3,9 @@ ghost use Rattle.wc_graph.specs.Inner.Codes.{IsCode, IsNew, HasPlace, HasTarget}
 ghost use Rattle.wc_graph.specs.Inner.Exploring.{Expands};
 
 use crate::frames::{Frame, Leap, Place, Turn, Way};
-use crate::interned::{number_of_frame, number_of_place};
+use crate::interned::number_of_frame;
+use crate::places::Places;
+use crate::rows::Rows;
 use indexmap::IndexSet;
 use std::alloc::{AllocError, Global};
 use wc_base::Addr;
@@ -15,8 +17,8 @@ pub const MOST: usize = 100_000;
 #[derive(Drop)]
 pub struct Code {
     pub frames: IndexSet<Frame>,
-    pub places: IndexSet<Place>,
-    pub leaps: Vec<Vec<Leap>>,
+    pub places: Places,
+    pub leaps: Rows,
 }
 
 impl Code {
@@ -26,8 +28,8 @@ impl Code {
     {
         let mut code = Code {
             frames: IndexSet::new(alloc),
-            places: IndexSet::new(alloc),
-            leaps: Vec::new(alloc),
+            places: Places::new(alloc)?,
+            leaps: Rows::new(alloc),
         };
         let frame = Frame {
             parent: None,
@@ -39,7 +41,7 @@ impl Code {
             frame: 0,
             pc: entry,
         };
-        number_of_place(&mut code.places, place)?;
+        code.places.number_of(place)?;
         Ok(code)
     }
 
@@ -92,34 +94,34 @@ impl Code {
         let Some(place) = self.place_of(place, way)? else {
             return Ok(None);
         };
-        let number = number_of_place(&mut self.places, place)?;
+        let number = self.places.number_of(place)?;
         Ok(Some(number as u32))
     }
 
-    /// The steps along these ways of a position; nothing where no more positions are analysed.
+    /// The steps along these ways of a position; false where no more positions are analysed.
     pub fn expand(
         &mut self,
-        alloc: Global,
         place: Place,
         turns: &[Turn],
-    ) -> Result<Option<Vec<Leap>>, AllocError>
+        leaps: &mut Vec<Leap>,
+    ) -> Result<bool, AllocError>
         requires code { IsCode self.old }
         requires inside { place.frame < length self.old.frames.keys }
         requires few { length self.old.places.keys ≤ 100000 }
         ensures leaps { self.new.leaps ≡ self.old.leaps }
-        ensures expanded { IfOk result (Expands self.old self.new place turns.now) }
+        ensures expanded { IfOk result (Expands self.old self.new place turns.now leaps.new.items) }
     {
-        let mut leaps = Vec::new(alloc);
+        leaps.clear();
         for turn in turns {
             let target = self.target(place, turn.way)?;
             if MOST < self.places.len() {
-                return Ok(None);
+                return Ok(false);
             }
             leaps.push(Leap {
                 target,
                 taken: turn.taken,
             })?;
         }
-        Ok(Some(leaps))
+        Ok(true)
     }
 }

@@ -1,7 +1,7 @@
 ghost use Rattle.std.specs.Prelude.{IfOk};
 ghost use Rattle.wc_graph.specs.Inner.Numbers.{HasNumber};
 
-use crate::frames::{Frame, Place};
+use crate::frames::Frame;
 use indexmap::IndexSet;
 use std::alloc::AllocError;
 
@@ -10,13 +10,5 @@ pub fn number_of_frame(frames: &mut IndexSet<Frame>, frame: Frame) -> Result<usi
     ensures { IfOk result (HasNumber frames.old.keys frames.new.keys frame) }
 {
     let (number, _) = frames.insert_full(frame)?;
-    Ok(number)
-}
-
-/// The number of a place, which goes last where it is new.
-pub fn number_of_place(places: &mut IndexSet<Place>, place: Place) -> Result<usize, AllocError>
-    ensures { IfOk result (HasNumber places.old.keys places.new.keys place) }
-{
-    let (number, _) = places.insert_full(place)?;
     Ok(number)
 }

@@ -4,6 +4,7 @@
 #![tactic(auto)]
 
 mod assembly;
+mod buckets;
 mod building;
 mod code;
 mod families;
@@ -12,10 +13,15 @@ mod frames;
 mod interned;
 mod inverse;
 mod keys;
+mod lists;
 mod live;
 mod numbering;
 mod opened;
 mod order;
+mod places;
+mod ranked;
+mod rising;
+mod rows;
 mod search;
 mod sources;
 mod stated;

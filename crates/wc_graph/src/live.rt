@@ -3,7 +3,9 @@ ghost use Rattle.wc_graph.specs.Inner.Lists.{Inside};
 ghost use Rattle.wc_graph.specs.Inner.Ordered.{AreLiveFrames, AreWithin};
 ghost use Rattle.wc_graph.specs.Inner.Spreads.{AllInside, IsUnmarked, Marks, IsSpread};
 
+use crate::buckets::Buckets;
 use crate::frames::Place;
+use crate::lists::filled;
 use std::alloc::{AllocError, Global};
 
 // Numbers that are marked, and those of them whose neighbours wait to be marked.
@@ -17,10 +19,7 @@ impl Marked {
     fn new(alloc: Global, count: usize) -> Result<Self, AllocError>
         ensures { IfOk result (IsUnmarked count) }
     {
-        let mut marks = Vec::new(alloc);
-        for number in 0..count {
-            marks.push(false)?;
-        }
+        let marks = filled(alloc, count, false)?;
         let work = Vec::new(alloc);
         Ok(Marked { marks, work })
     }
@@ -64,15 +63,17 @@ impl Marked {
 }
 
 /// The numbers that are reached from some of these, along the lists of neighbours.
-pub fn spread(alloc: Global, into: &[Vec<u32>], from: &[u32]) -> Result<Vec<bool>, AllocError>
+pub fn spread(alloc: Global, into: &Buckets, from: &[u32]) -> Result<Vec<bool>, AllocError>
     requires lists { AllInside into.now }
     requires from { Inside (length into.now) from.now }
     ensures { IfOk result (λ v. IsSpread into.now from.now v.items) }
 {
     let mut marked = Marked::new(alloc, into.len())?;
+    let mut own = Vec::new(alloc);
     marked.mark_all(from)?;
     while let Some(number) = marked.work.pop() {
-        marked.mark_all(into[number as usize].as_slice())?;
+        into.gather(number as usize, &mut own)?;
+        marked.mark_all(own.as_slice())?;
     }
     Ok(marked.marks)
 }

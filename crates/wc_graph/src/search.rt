@@ -4,7 +4,7 @@ ghost use Rattle.wc_graph.specs.Inner.Searches.{IsNext, IsReady, IsSearched, Has
 
 use crate::code::Code;
 use crate::faults::{Faulty, lesser};
-use crate::frames::{Place, Turn};
+use crate::frames::{Leap, Place, Turn};
 use crate::opened::Opened;
 use crate::stated::Stated;
 use crate::turns::turns_of;
@@ -20,6 +20,13 @@ pub struct Search {
     pub least: Option<Faulty>,
 }
 
+/// The ways and the steps of the position that is expanded.
+#[derive(Drop)]
+pub struct Own {
+    pub turns: Vec<Turn>,
+    pub leaps: Vec<Leap>,
+}
+
 impl Search {
     fn new(alloc: Global, entry: Addr) -> Result<Self, AllocError>
         ensures { IfOk result (IsSearched entry) }
@@ -32,25 +39,26 @@ impl Search {
     }
 
     // A faulty position has no steps.
-    fn skip(&mut self, alloc: Global, at: Addr, fault: Fault) -> Result<(), AllocError>
+    fn skip(&mut self, at: Addr, fault: Fault) -> Result<(), AllocError>
         ensures { IfOk result (λ _. HasSkipped self.old self.new at fault) }
     {
-        self.code.leaps.push(Vec::new(alloc))?;
+        self.code.leaps.push(&[])?;
         self.least = lesser(self.least, Faulty { at, fault });
         Ok(())
     }
 
     // The steps along the ways of a position; false where no more positions are analysed.
-    fn add(&mut self, alloc: Global, place: Place, turns: &[Turn]) -> Result<bool, AllocError>
+    fn add(&mut self, place: Place, own: &mut Own) -> Result<bool, AllocError>
         requires code { IsCode self.old.code }
         requires inside { place.frame < length self.old.code.frames.keys }
         requires few { length self.old.code.places.keys ≤ 100000 }
-        ensures { IfOk result (AddsTurns self.old self.new place turns.now) }
+        ensures { IfOk result (AddsTurns self.old self.new place own.old.turns.items) }
     {
-        let Some(leaps) = self.code.expand(alloc, place, turns)? else {
+        let turns = own.turns.as_slice();
+        if !self.code.expand(place, turns, &mut own.leaps)? {
             return Ok(false);
-        };
-        self.code.leaps.push(leaps)?;
+        }
+        self.code.leaps.push(own.leaps.as_slice())?;
         Ok(true)
     }
 
@@ -61,20 +69,20 @@ impl Search {
         image: &Image,
         stated: &Stated,
         place: Place,
+        own: &mut Own,
     ) -> Result<bool, AllocError>
         requires ready { IsReady self.old }
         requires next { IsNext self.old place }
         ensures { IfOk result (HasSearched image.now stated.now self.old self.new) }
     {
         let frames = self.code.frames.as_slice();
-        let turns = match turns_of(alloc, image, stated, frames, &mut self.opened, place)? {
-            Err(fault) => {
-                self.skip(alloc, place.pc, fault)?;
-                return Ok(true);
-            }
-            Ok(turns) => turns,
-        };
-        self.add(alloc, place, turns.as_slice())
+        let opened = &mut self.opened;
+        let told = turns_of(alloc, image, stated, frames, opened, place, &mut own.turns)?;
+        if let Some(fault) = told {
+            self.skip(place.pc, fault)?;
+            return Ok(true);
+        }
+        self.add(place, own)
     }
 }
 
@@ -88,9 +96,13 @@ pub fn explore(
     ensures { IfOk result (IsExploration image.now stated.now entry) }
 {
     let mut search = Search::new(alloc, entry)?;
+    let mut own = Own {
+        turns: Vec::new(alloc),
+        leaps: Vec::new(alloc),
+    };
     while search.code.leaps.len() < search.code.places.len() {
         let place = search.code.places.as_slice()[search.code.leaps.len()];
-        if !search.expand(alloc, image, stated, place)? {
+        if !search.expand(alloc, image, stated, place, &mut own)? {
             return Ok(None);
         }
     }

@@ -1,5 +1,4 @@
-ghost use Rattle.std.specs.Prelude.{◌≡◌, ◌≤◌, IfOk, List, Vec, map, length};
-ghost use Rattle.std.specs.Global.{Global};
+ghost use Rattle.std.specs.Prelude.{◌≡◌, ◌≤◌, IfOk, List, map, length};
 ghost use Rattle.wc_graph.specs.declared.code.Code.{Code};
 ghost use Rattle.wc_graph.specs.declared.frames.Leap.{Leap};
 ghost use Rattle.wc_graph.specs.Inner.Lists.{Has};
@@ -7,8 +6,8 @@ ghost use Rattle.wc_graph.specs.Inner.Sources.{AreTargets};
 ghost use Rattle.wc_graph.specs.Inner.Surveys.{IsLive, Surveys};
 
 use crate::code::Code;
-use crate::frames::Leap;
 use crate::live::spread;
+use crate::rows::Rows;
 use crate::search::explore;
 use crate::sources::sources_of;
 use crate::stated::Stated;
@@ -24,13 +23,13 @@ pub struct Survey {
 }
 
 // Which positions lead to the exit.
-fn live_of(alloc: Global, leaps: &[Vec<Leap>]) -> Result<Vec<bool>, AllocError>
+fn live_of(alloc: Global, leaps: &Rows) -> Result<Vec<bool>, AllocError>
     requires few { length leaps.now ≤ 100000 }
-    requires inside { (v : Vec Leap Global) → Has leaps.now v → AreTargets (length leaps.now) v.items }
+    requires inside { (own : List Leap) → Has leaps.now own → AreTargets (length leaps.now) own }
     ensures { IfOk result (λ v. IsLive leaps.now v.items) }
 {
     let sources = sources_of(alloc, leaps)?;
-    spread(alloc, sources.into.as_slice(), sources.exits.as_slice())
+    spread(alloc, &sources.into, sources.exits.as_slice())
 }
 
 /// All positions of the function at `entry` and those on a walk to its exit, or why there is no graph.
@@ -49,7 +48,7 @@ pub fn survey_of(
     if let Some(faulty) = search.least {
         return Err(Trouble::Fault(faulty.fault));
     }
-    let live = live_of(alloc, search.code.leaps.as_slice())?;
+    let live = live_of(alloc, &search.code.leaps)?;
     if !live[0] {
         return Err(Trouble::Fault(Fault::NoExit));
     }

@@ -11,7 +11,7 @@ use std::alloc::{AllocError, Global};
 use wc_base::Fault;
 use wc_model::Image;
 
-/// The ways out of a position, or why it can't be analysed.
+/// The ways out of a position, in place of what was there; or why it can't be analysed.
 pub fn turns_of(
     alloc: Global,
     image: &Image,
@@ -19,20 +19,21 @@ pub fn turns_of(
     frames: &[Frame],
     opened: &mut Opened,
     place: Place,
-) -> Result<Result<Vec<Turn>, Fault>, AllocError>
+    turns: &mut Vec<Turn>,
+) -> Result<Option<Fault>, AllocError>
     requires frames { AreFrames frames.now }
     requires opened { AreOpened frames.now opened.old }
     requires inside { place.frame < length frames.now }
     ensures opened { IfOk result (λ _. AreOpened frames.now opened.new) }
-    ensures turns { IfOk result (TellsTurns image.now stated.now frames.now place) }
+    ensures turns { IfOk result (TellsTurns image.now stated.now frames.now place turns.new.items) }
 {
-    let turns = match ways(alloc, image, stated, place.pc)? {
-        Err(fault) => return Ok(Err(fault)),
-        Ok(turns) => turns,
-    };
+    let told = ways(alloc, image, stated, place.pc, turns)?;
+    if let Some(fault) = told {
+        return Ok(Some(fault));
+    }
     opened.follow(frames)?;
     if opened.reopens(frames, place.frame, turns.as_slice()) {
-        return Ok(Err(Fault::Recursion(place.pc)));
+        return Ok(Some(Fault::Recursion(place.pc)));
     }
-    Ok(Ok(turns))
+    Ok(None)
 }

@@ -3,7 +3,7 @@ ghost use Rattle.wc_graph.specs.Inner.Codes.{AreFrames};
 ghost use Rattle.wc_graph.specs.Inner.Families.{IsFamily};
 ghost use Rattle.wc_graph.specs.Inner.Walks.{IsWalked};
 
-use crate::families::falling;
+use crate::families::add_falling;
 use crate::frames::Frame;
 use crate::sources::Sources;
 use std::alloc::{AllocError, Global};
@@ -23,14 +23,16 @@ pub fn listed(
 {
     let mut listed = Vec::new(alloc);
     let mut work = Vec::new(alloc);
+    let mut own = Vec::new(alloc);
+    let mut keys = Vec::new(alloc);
     work.push(0u32)?;
     for round in 0..frames.len() + 1 {
         let Some(frame) = work.pop() else {
             return Ok(listed);
         };
         listed.push(frame)?;
-        let children = falling(alloc, frames, kids.into[frame as usize].as_slice())?;
-        work.extend_from_slice(children.as_slice())?;
+        kids.into.gather(frame as usize, &mut own)?;
+        add_falling(frames, own.as_slice(), &mut keys, &mut work)?;
     }
     Ok(listed)
 }

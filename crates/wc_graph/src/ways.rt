@@ -114,25 +114,26 @@ fn push_next(turns: &mut Vec<Turn>, at: Addr, passes: bool) -> Result<(), AllocE
     Ok(())
 }
 
-/// The ways out of the instruction at an address, or why it can't be analysed.
+/// The ways out of the instruction at an address, in place of what was there; or why it can't be analysed.
 pub fn ways(
     alloc: Global,
     image: &Image,
     stated: &Stated,
     at: Addr,
-) -> Result<Result<Vec<Turn>, Fault>, AllocError>
-    ensures { IfOk result (TellsWays image.now stated.now at) }
+    turns: &mut Vec<Turn>,
+) -> Result<Option<Fault>, AllocError>
+    ensures { IfOk result (TellsWays image.now stated.now at turns.new.items) }
 {
     let Some(word) = image.word(at) else {
-        return Ok(Err(Fault::OutOfText(at)));
+        return Ok(Some(Fault::OutOfText(at)));
     };
     let Some(insn) = insn(at, word) else {
-        return Ok(Err(Fault::UnknownInstruction(at)));
+        return Ok(Some(Fault::UnknownInstruction(at)));
     };
-    let mut turns = Vec::new(alloc);
-    if !push_taken(alloc, &mut turns, stated, at, insn.control)? {
-        return Ok(Err(Fault::Unresolved(at)));
+    turns.clear();
+    if !push_taken(alloc, turns, stated, at, insn.control)? {
+        return Ok(Some(Fault::Unresolved(at)));
     }
-    push_next(&mut turns, at, passes_on(&insn))?;
-    Ok(Ok(turns))
+    push_next(turns, at, passes_on(&insn))?;
+    Ok(None)
 }

@@ -1,6 +1,5 @@
 -- The graph out of what was found, with new numbers.
-use Rattle.std.specs.Prelude.{ℕ, ◌≡◌, ◌+◌, ◌<◌, ◌^◌, Bool, List, [], ◌∷◌, ◌++◌, map, Option, None, Some, Vec, option_and_then, length, slice_get}
-use Rattle.std.specs.Global.{Global}
+use Rattle.std.specs.Prelude.{ℕ, ◌≡◌, ◌+◌, ◌<◌, ◌^◌, Bool, List, [], ◌∷◌, ◌++◌, map, Option, None, Some, option_and_then, length, slice_get}
 use Rattle.std.specs.List.{flat_map}
 use Rattle.wc_model.specs.declared.elf_image.Image.{Image}
 use Rattle.wc_model.specs.declared.graphs.Context.{Context}
@@ -42,11 +41,11 @@ new_target numbers (Some t) = Some (rank_at numbers t)
 abbrev pub step_of : List (Option ℕ) → ℕ → Leap → List NumberedStep
 step_of numbers source leap = step_to source leap.taken (new_target numbers leap.target)
 
-abbrev pub leaps_at : Option (Vec Leap Global) → List Leap
+abbrev pub leaps_at : Option (List Leap) → List Leap
 leaps_at None = []
-leaps_at (Some own) = own.items
+leaps_at (Some own) = own
 
-abbrev pub steps_from : List (Vec Leap Global) → List (Option ℕ) → ℕ → List ℕ → List NumberedStep
+abbrev pub steps_from : List (List Leap) → List (Option ℕ) → ℕ → List ℕ → List NumberedStep
 steps_from leaps numbers n [] = []
 steps_from leaps numbers n (k ∷ ks) = flat_map (step_of numbers n) (leaps_at (slice_get leaps k)) ++ steps_from leaps numbers (n + 1) ks
 
@@ -54,7 +53,7 @@ steps_from leaps numbers n (k ∷ ks) = flat_map (step_of numbers n) (leaps_at (
 pub record IsAssembled (image : Image) (survey : Survey) (frames places : Numbering) (graph : Graph) : Type 0 where
   pub contexts : graph.contexts ≡ map (context_of survey.code.frames.keys frames.numbers.items) frames.order.items
   pub nodes : graph.nodes ≡ flat_map (node_of image survey.code.places.keys frames.numbers.items) places.order.items
-  pub steps : graph.steps ≡ steps_from survey.code.leaps.items places.numbers.items 0 places.order.items
+  pub steps : graph.steps ≡ steps_from survey.code.leaps places.numbers.items 0 places.order.items
   pub few_steps : length graph.steps < 2 ^ 32
   pub start : slice_get places.numbers.items 0 ≡ Some (Some graph.start)
 

@@ -60,4 +60,4 @@ pub record IsFound (steps : Position → List Step) (entry : ℕ) (frames : List
 pub record IsNew (entry : ℕ) (code : Code) : Type 0 where
   pub frames : code.frames.keys ≡ frame_of None (record { returns = 0; callee = entry }) ∷ []
   pub places : code.places.keys ≡ (record { frame = 0; pc = entry }) ∷ []
-  pub leaps : code.leaps.items ≡ []
+  pub leaps : code.leaps ≡ []

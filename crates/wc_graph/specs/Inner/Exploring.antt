@@ -1,6 +1,5 @@
 -- Positions that are expanded: the steps along their ways.
-use Rattle.std.specs.Prelude.{ℕ, ◌≡◌, ◌≤◌, List, map, Option, Some, MatchOption, Vec, Contains, length, slice_get}
-use Rattle.std.specs.Global.{Global}
+use Rattle.std.specs.Prelude.{ℕ, ◌≡◌, ◌≤◌, Bool, true, false, List, map, Some, Contains, length, slice_get}
 use Rattle.std.specs.List.{AllZip}
 use Rattle.wc_model.specs.Program.Graphs.{IsTargetOf}
 use Rattle.wc_model.specs.Program.Positions.{Position, start_of}
@@ -54,6 +53,7 @@ pub record HasExpanded (old new : Code) (place : Place) (turns : List Turn) (lea
 abbrev pub IsFull : Code → Place → List Turn → Type 0
 IsFull old place turns = (steps : Position → List Step) (entry : ℕ) (ps : List Position) (n : ℕ) (p : Position) → HasWays steps entry old.frames.keys old.places.keys ps place turns n p → IsMany steps entry
 
--- nothing where no more positions are analysed
-abbrev pub Expands : Code → Code → Place → List Turn → Option (Vec Leap Global) → Type 0
-Expands old new place turns told = MatchOption told (IsFull old place turns) (λ v. HasExpanded old new place turns v.items)
+-- false where no more positions are analysed
+abbrev pub Expands : Code → Code → Place → List Turn → List Leap → Bool → Type 0
+Expands old new place turns leaps false = IsFull old place turns
+Expands old new place turns leaps true = HasExpanded old new place turns leaps

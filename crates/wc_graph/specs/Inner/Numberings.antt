@@ -1,6 +1,5 @@
 -- New numbers: the live frames in the order of their stacks, and the live positions in order.
-use Rattle.std.specs.Prelude.{ℕ, ◌≡◌, ◌≤◌, Bool, List, Vec, length}
-use Rattle.std.specs.Global.{Global}
+use Rattle.std.specs.Prelude.{ℕ, ◌≡◌, ◌≤◌, Bool, List, length}
 use Rattle.wc_model.specs.declared.elf_image.Image.{Image}
 use Rattle.wc_model.specs.declared.flow_facts.Fact.{Fact}
 use Rattle.wc_graph.specs.declared.frames.Leap.{Leap}
@@ -26,8 +25,8 @@ pub record IsSized (survey : Survey) : Type 0 where
   pub code : IsCode survey.code
   pub few : length survey.code.places.keys ≤ 100000
   pub live : length survey.live.items ≡ length survey.code.places.keys
-  pub leaps : length survey.code.leaps.items ≡ length survey.code.places.keys
-  pub targets : (v : Vec Leap Global) → Has survey.code.leaps.items v → AreTargets (length survey.code.places.keys) v.items
+  pub leaps : length survey.code.leaps ≡ length survey.code.places.keys
+  pub targets : (v : List Leap) → Has survey.code.leaps v → AreTargets (length survey.code.places.keys) v
 
 -- some of the first numbers, each once, with their places
 pub record AreNumbered (count : ℕ) (numbering : Numbering) : Type 0 where

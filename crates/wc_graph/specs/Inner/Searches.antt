@@ -1,6 +1,5 @@
 -- An exploration: the positions that are found first are expanded first.
-use Rattle.std.specs.Prelude.{ℕ, ◌≡◌, ◌+◌, ◌<◌, ◌≤◌, Bool, true, false, List, [], ◌∷◌, ◌++◌, Option, None, Some, Vec, length, slice_get}
-use Rattle.std.specs.Global.{Global}
+use Rattle.std.specs.Prelude.{ℕ, ◌≡◌, ◌+◌, ◌<◌, ◌≤◌, Bool, true, false, List, [], ◌∷◌, ◌++◌, Option, None, Some, length, slice_get}
 use Rattle.std.specs.List.{AllZip}
 use Rattle.wc_base.specs.declared.faults.Fault.{Fault}
 use Rattle.wc_model.specs.declared.elf_image.Image.{Image}
@@ -27,10 +26,10 @@ pub record IsReady (search : Search) : Type 0 where
   pub opened : AreOpened search.code.frames.keys search.opened
 
 -- the first positions have their steps, and the first of their faults is known
-pub record IsSearchingOf (image : Image) (facts : List Fact) (entry : ℕ) (frames : List Frame) (places : List Place) (leaps : List (Vec Leap Global)) (least : Option Faulty) : Type 0 where
+pub record IsSearchingOf (image : Image) (facts : List Fact) (entry : ℕ) (frames : List Frame) (places : List Place) (leaps : List (List Leap)) (least : Option Faulty) : Type 0 where
   pub ps : List Position
   pub found : IsFound (steps_of image facts entry) entry frames places ps
-  pub expanded : (k : ℕ) (v : Vec Leap Global) (p : Position) → slice_get leaps k ≡ Some v → slice_get ps k ≡ Some p → AllZip (Lands ps) v.items (steps_of image facts entry p)
+  pub expanded : (k : ℕ) (v : List Leap) (p : Position) → slice_get leaps k ≡ Some v → slice_get ps k ≡ Some p → AllZip (Lands ps) v (steps_of image facts entry p)
   pub fits : length leaps ≤ length ps
   pub faults : List Faulty
   pub is_least : IsLeast faults least
@@ -38,27 +37,25 @@ pub record IsSearchingOf (image : Image) (facts : List Fact) (entry : ℕ) (fram
   pub from : (f : Faulty) → IsAmong faults f → (p : Position) × Reaches (LeadsBy (steps_of image facts entry)) (start_of entry) p × (fault_at image facts entry p ≡ Some f.fault) × (f.at ≡ p.pc)
 
 abbrev pub IsSearching : Image → List Fact → ℕ → Search → Type 0
-IsSearching image facts entry search = IsSearchingOf image facts entry search.code.frames.keys search.code.places.keys search.code.leaps.items search.least
+IsSearching image facts entry search = IsSearchingOf image facts entry search.code.frames.keys search.code.places.keys search.code.leaps search.least
 
 -- the position that is expanded next
 abbrev pub IsNext : Search → Place → Type 0
-IsNext search place = slice_get search.code.places.keys (length search.code.leaps.items) ≡ Some place
+IsNext search place = slice_get search.code.places.keys (length search.code.leaps) ≡ Some place
 
 -- a faulty position has no steps
 pub record HasSkipped (old new : Search) (at : ℕ) (fault : Fault) : Type 0 where
   pub frames : new.code.frames.keys ≡ old.code.frames.keys
   pub places : new.code.places.keys ≡ old.code.places.keys
-  pub none : Vec Leap Global
-  pub empty : none.items ≡ []
-  pub leaps : new.code.leaps.items ≡ old.code.leaps.items ++ none ∷ []
+  pub leaps : new.code.leaps ≡ old.code.leaps ++ [] ∷ []
   pub opened : new.opened ≡ old.opened
   pub least : (faults : List Faulty) → IsLeast faults old.least → IsLeast (faults ++ (record { at = at; fault = fault }) ∷ []) new.least
 
 -- the steps along the ways of a position
 pub record HasAdded (old new : Search) (place : Place) (turns : List Turn) : Type 0 where
-  pub more : Vec Leap Global
-  pub expanded : HasExpanded old.code new.code place turns more.items
-  pub leaps : new.code.leaps.items ≡ old.code.leaps.items ++ more ∷ []
+  pub more : List Leap
+  pub expanded : HasExpanded old.code new.code place turns more
+  pub leaps : new.code.leaps ≡ old.code.leaps ++ more ∷ []
   pub opened : new.opened ≡ old.opened
   pub least : new.least ≡ old.least
 
@@ -68,7 +65,7 @@ AddsTurns old new place turns true = HasAdded old new place turns
 
 abbrev pub HasSearched : Image → Stated → Search → Search → Bool → Type 0
 HasSearched image stated old new false = (facts : List Fact) (entry : ℕ) → AreStated facts stated → IsSearching image facts entry old → IsMany (steps_of image facts entry) entry
-HasSearched image stated old new true = IsReady new × (length new.code.leaps.items ≡ length old.code.leaps.items + 1) × ((facts : List Fact) (entry : ℕ) → AreStated facts stated → IsSearching image facts entry old → IsSearching image facts entry new)
+HasSearched image stated old new true = IsReady new × (length new.code.leaps ≡ length old.code.leaps + 1) × ((facts : List Fact) (entry : ℕ) → AreStated facts stated → IsSearching image facts entry old → IsSearching image facts entry new)
 
 -- the start alone
 pub record IsSearched (entry : ℕ) (search : Search) : Type 0 where
@@ -78,7 +75,7 @@ pub record IsSearched (entry : ℕ) (search : Search) : Type 0 where
 -- all positions
 pub record IsComplete (image : Image) (stated : Stated) (entry : ℕ) (search : Search) : Type 0 where
   pub ready : IsReady search
-  pub all : length search.code.places.keys ≤ length search.code.leaps.items
+  pub all : length search.code.places.keys ≤ length search.code.leaps
   pub searching : (facts : List Fact) → AreStated facts stated → IsSearching image facts entry search
 
 abbrev pub IsExploration : Image → Stated → ℕ → Option Search → Type 0

@@ -1,6 +1,5 @@
 -- The positions of a function, and those that lie on a walk from its start to its exit.
-use Rattle.std.specs.Prelude.{ℕ, ◌≡◌, ◌≤◌, Bool, List, Result, Ok, Err, None, Vec, length}
-use Rattle.std.specs.Global.{Global}
+use Rattle.std.specs.Prelude.{ℕ, ◌≡◌, ◌≤◌, Bool, List, Result, Ok, Err, None, length}
 use Rattle.wc_base.specs.declared.troubles.Trouble.{Trouble}
 use Rattle.wc_base.specs.declared.troubles.Trouble.TheVariants.{Fault as Refused, Memory}
 use Rattle.wc_model.specs.declared.elf_image.Image.{Image}
@@ -16,20 +15,20 @@ use Rattle.wc_graph.specs.Inner.Sources.{AreSources, AreTargets, edges_from}
 use Rattle.wc_graph.specs.Inner.Spreads.{IsMarked, IsSpread}
 
 -- exactly the numbers from which steps lead to the exit are marked
-pub record IsLive (leaps : List (Vec Leap Global)) (marks : List Bool) : Type 0 where
+pub record IsLive (leaps : List (List Leap)) (marks : List Bool) : Type 0 where
   pub sources : Sources
   pub are : AreSources (length leaps) (edges_from 0 leaps) sources
-  pub spread : IsSpread sources.into.items sources.exits.items marks
+  pub spread : IsSpread sources.into sources.exits.items marks
 
 pub record IsSurvey (image : Image) (facts : List Fact) (entry : ℕ) (survey : Survey) : Type 0 where
   pub code : IsCode survey.code
   pub few : length survey.code.places.keys ≤ 100000
-  pub all : length survey.code.leaps.items ≡ length survey.code.places.keys
-  pub searching : IsSearchingOf image facts entry survey.code.frames.keys survey.code.places.keys survey.code.leaps.items None
-  pub targets : (v : Vec Leap Global) → Has survey.code.leaps.items v → AreTargets (length survey.code.leaps.items) v.items
+  pub all : length survey.code.leaps ≡ length survey.code.places.keys
+  pub searching : IsSearchingOf image facts entry survey.code.frames.keys survey.code.places.keys survey.code.leaps None
+  pub targets : (v : List Leap) → Has survey.code.leaps v → AreTargets (length survey.code.leaps) v
   pub small : IsTooLarge image facts entry → ⊥
   pub sound : IsSound image facts entry
-  pub live : IsLive survey.code.leaps.items survey.live.items
+  pub live : IsLive survey.code.leaps survey.live.items
   pub started : IsMarked survey.live.items 0
 
 abbrev pub Surveys : Image → List Fact → ℕ → Result Survey Trouble → Type 0

@@ -1,6 +1,5 @@
 -- The ways out of an instruction, under any call stack.
-use Rattle.std.specs.Prelude.{ℕ, ◌≡◌, ◌+◌, ◌%◌, ◌^◌, Bool, true, false, if◌then◌else◌, List, [], ◌∷◌, ◌++◌, map, None, Some, Result, Ok, Err, Vec}
-use Rattle.std.specs.Global.{Global}
+use Rattle.std.specs.Prelude.{ℕ, ◌≡◌, ◌+◌, ◌%◌, ◌^◌, Bool, true, false, if◌then◌else◌, List, [], ◌∷◌, ◌++◌, map, Option, None, Some}
 use Rattle.std.specs.List.{flat_map, list_any}
 use Rattle.wc_base.specs.declared.faults.Fault.{Fault}
 use Rattle.wc_base.specs.declared.faults.Fault.TheVariants.{Recursion}
@@ -56,21 +55,21 @@ pub record IsWay (image : Image) (facts : List Fact) (entry : ℕ) (turns : List
   pub sound : list_any (λ t. reopens entry p.calls t.way) turns ≡ false → fault_at image facts entry p ≡ None
   pub steps : list_any (λ t. reopens entry p.calls t.way) turns ≡ false → steps_of image facts entry p ≡ map (along p) turns
 
-abbrev pub AreWays : Image → List Fact → ℕ → Result (Vec Turn Global) Fault → Type 0
-AreWays image facts at (Err fault) = (entry : ℕ) (p : Position) → p.pc ≡ at → fault_at image facts entry p ≡ Some fault
-AreWays image facts at (Ok turns) = (entry : ℕ) (p : Position) → p.pc ≡ at → IsWay image facts entry turns.items p
+abbrev pub AreWays : Image → List Fact → ℕ → List Turn → Option Fault → Type 0
+AreWays image facts at turns (Some fault) = (entry : ℕ) (p : Position) → p.pc ≡ at → fault_at image facts entry p ≡ Some fault
+AreWays image facts at turns None = (entry : ℕ) (p : Position) → p.pc ≡ at → IsWay image facts entry turns p
 
 -- the ways of a position, or its fault
-abbrev pub AreTurns : Image → List Fact → List Frame → Place → Result (Vec Turn Global) Fault → Type 0
-AreTurns image facts frames place (Err fault) = (entry : ℕ) (p : Position) → IsAt entry frames place p → fault_at image facts entry p ≡ Some fault
-AreTurns image facts frames place (Ok turns) = (entry : ℕ) (p : Position) → IsAt entry frames place p → (fault_at image facts entry p ≡ None) × (steps_of image facts entry p ≡ map (along p) turns.items)
+abbrev pub AreTurns : Image → List Fact → List Frame → Place → List Turn → Option Fault → Type 0
+AreTurns image facts frames place turns (Some fault) = (entry : ℕ) (p : Position) → IsAt entry frames place p → fault_at image facts entry p ≡ Some fault
+AreTurns image facts frames place turns None = (entry : ℕ) (p : Position) → IsAt entry frames place p → (fault_at image facts entry p ≡ None) × (steps_of image facts entry p ≡ map (along p) turns)
 
 -- the same under what the facts state
-abbrev pub TellsTurns : Image → Stated → List Frame → Place → Result (Vec Turn Global) Fault → Type 0
-TellsTurns image stated frames place told = (facts : List Fact) → AreStated facts stated → AreTurns image facts frames place told
+abbrev pub TellsTurns : Image → Stated → List Frame → Place → List Turn → Option Fault → Type 0
+TellsTurns image stated frames place turns told = (facts : List Fact) → AreStated facts stated → AreTurns image facts frames place turns told
 
-abbrev pub TellsWays : Image → Stated → ℕ → Result (Vec Turn Global) Fault → Type 0
-TellsWays image stated at told = (facts : List Fact) → AreStated facts stated → AreWays image facts at told
+abbrev pub TellsWays : Image → Stated → ℕ → List Turn → Option Fault → Type 0
+TellsWays image stated at turns told = (facts : List Fact) → AreStated facts stated → AreWays image facts at turns told
 
 abbrev pub AddsCalls : Stated → ℕ → List ℕ → List Turn → List Turn → Type 0
 AddsCalls stated at callees old new = (facts : List Fact) → AreStated facts stated → new ≡ old ++ flat_map (call_turns facts at) callees

@@ -1,6 +1,7 @@
-use Rattle.std.proofs.Common.{ℕ, ◌<◌, List, Option, Some, length, get_or, set, refl, arith}
+use Rattle.std.proofs.Common.{ℕ, ◌≡◌, ◌<◌, List, Option, Some, length, get_or, set, refl, subst, arith}
 use Rattle.std.proofs.lemmas.Option.{slice_get-get_or}
-use Rattle.wc_graph.proofs.InverseLemmas.{placed_more}
+use Rattle.wc_graph.specs.Inner.Inverses.{IsPlacedTo}
+use Rattle.wc_graph.proofs.InverseLemmas.{placed_more, placed_none}
 use Rattle.wc_graph.proofs.SpreadLemmas.{at_has}
 use Rattle.wc_graph.proofs.inverse.inverse.Goals as goal
 
@@ -17,3 +18,11 @@ loop-place-preserved c =
     let old : List (Option ℕ) = c.loop-place.numbers.items in
     let less : i < length listed = omega arith in
     placed_more c.args.count listed i (get_or listed i 0) old (set old (get_or listed i 0) (Some i)) c.loop-place.invariant (slice_get-get_or listed i 0 less) (c.requires.inside (get_or listed i 0) (at_has listed i 0 less)) refl
+
+pub loop-place-init : goal.loop-place-init
+loop-place-init c = placed_none c.args.count c.args.listed.now c.in_ok-numbers.numbers.items c.in_ok-numbers.ensures
+
+pub returns : goal.returns
+returns c =
+    let end : c.loop-place.place ≡ length c.args.listed.now = omega (arith, c.loop-place-test.false, c.loop-place.auto.place-end) in
+    subst (λ (n : ℕ). IsPlacedTo c.args.count c.args.listed.now n c.loop-place.numbers.items) end c.loop-place.invariant

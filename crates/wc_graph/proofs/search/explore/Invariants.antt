@@ -12,4 +12,4 @@ invariant-loop-alloc l =
     }
 
 abbrev pub decreases-loop-alloc : goal.decreases-loop-alloc
-decreases-loop-alloc l = 100000 - length l.search.code.leaps.items
+decreases-loop-alloc l = 100000 - length l.search.code.leaps

@@ -13,5 +13,5 @@ pub returns : goal.returns
 returns c = λ facts are.
     let taken = c.in_ok-push_taken.ensures facts are in
     let insn = c.in-Some-insn.insn in
-    let first : c.push_taken.new.turns.items ≡ taken_turns facts c.args.at insn.control = taken.turns ∙ ap (λ (xs : List Turn). xs ++ taken_turns facts c.args.at insn.control) c.new-turns.ensures.items in
+    let first : c.push_taken.new.turns.items ≡ taken_turns facts c.args.at insn.control = taken.turns ∙ ap (λ (xs : List Turn). xs ++ taken_turns facts c.args.at insn.control) c.clear.ensures.items in
     ways_at c.args.image.now facts c.args.at c.in-Some.word insn (sym c.word.ensures ∙ c.in-Some.is) (sym c.insn.ensures.table ∙ c.in-Some-insn.is) c.push_next.new.turns.items c.passes_on.result c.passes_on.ensures (c.in_ok-push_next.ensures ∙ ap (λ (xs : List Turn). xs ++ next_turns c.args.at c.passes_on.result) first) (sym taken.is ∙ c.if-not-branch.false)

@@ -15,7 +15,7 @@ pub loop-turn-init : goal.loop-turn-init
 loop-turn-init c =
     let old = c.args.self.now in
     record {
-      turned = subst (HasTurns old old c.args.place []) (sym c.new-leaps.ensures.items) (no_turns old c.args.place c.requires.code);
+      turned = subst (HasTurns old old c.args.place []) (sym c.clear.ensures.items) (no_turns old c.args.place c.requires.code);
       few = c.requires.few;
       inside = c.requires.inside;
       same = refl;

@@ -9,7 +9,7 @@ pub returns-clause-target : goal.returns-clause-target
 returns-clause-target c =
     let old = c.args.self.now in
     let mid = c.place_of.new.self in
-    let new = c.number_of_place.new.places in
+    let new = c.number_of.new.self in
     let x : Place = c.in-Some.place in
     let places : mid.places.keys ≡ old.places.keys = ap (λ s. s.keys) c.place_of.ensures.places in
     let has : HasPlace old.frames.keys mid.frames.keys c.args.place c.args.way (Some x) = subst (HasPlace old.frames.keys mid.frames.keys c.args.place c.args.way) c.in-Some.is c.in_ok-place.ensures.place in

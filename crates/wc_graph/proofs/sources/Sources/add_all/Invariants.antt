@@ -5,6 +5,6 @@ use Rattle.wc_graph.proofs.sources.Sources.add_all.Given as goal
 abbrev pub invariant-loop-leap : goal.invariant-loop-leap
 invariant-loop-leap l =
     record {
-      sources : (edges : List Edge) → AreSources (length l.fn.self.into.items) edges l.fn.self → AreSources (length l.fn.self.into.items) (edges ++ map (edge_of l.source) (take l.leap-index l.leaps)) l.self;
-      count : length l.self.into.items ≡ length l.fn.self.into.items;
+      sources : (edges : List Edge) → AreSources (length l.fn.self.into) edges l.fn.self → AreSources (length l.fn.self.into) (edges ++ map (edge_of l.source) (take l.leap-index l.leaps)) l.self;
+      count : length l.self.into ≡ length l.fn.self.into;
     }
