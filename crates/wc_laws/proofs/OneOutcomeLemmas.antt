@@ -19,7 +19,7 @@ use Rattle.wc_laws.proofs.OnePhaseLemmas.{IsOne, after_by, not_both, same_fault,
 use Rattle.wc_laws.proofs.OneSolutionLemmas.{solved_one}
 use Rattle.wc_laws.proofs.OneSystemLemmas.{system_of, system_one}
 use Rattle.wc_laws.proofs.SystemPlaces.{has_places}
-use Rattle.wc_laws.specs.OneOutcome.{HasOneOutcome}
+use Rattle.wc_laws.specs.OneOutcome.{HasAtMostOneOutcome}
 
 -- The chain from each phase on.
 module _ (inputs : Setting) where
@@ -51,7 +51,7 @@ module _ (inputs : Setting) where
 pub one_result : (inputs : Setting) (name : List ℕ) → IsOne (ChainResult inputs name)
 one_result inputs name = after_by (GraphOf inputs name) (FromNest inputs) (graph_one inputs name) (λ graph is_graph. from_nest inputs name graph is_graph)
 
-pub one_outcome : HasOneOutcome
+pub one_outcome : HasAtMostOneOutcome
 one_outcome inputs name (Bound m) (Bound n) is also = ap (λ (b : ℕ). Bound b) (same_value (Ok m) m n refl (one_result inputs name (Ok m) (Ok n) is also))
 one_outcome inputs name (Bound m) (Refused f) is also = absurd (not_both (Ok m) m f refl (one_result inputs name (Ok m) (Err f) is also))
 one_outcome inputs name (Bound m) Memory is also = absurd also

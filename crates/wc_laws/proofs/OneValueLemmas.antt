@@ -16,7 +16,7 @@ use Rattle.wc_model.specs.Workspace.Edits.{Setting}
 use Rattle.wc_model.specs.Workspace.Feature.{IsFeature}
 use Rattle.wc_laws.proofs.OneFeatureLemmas.{one_bounds, one_category, one_cost, one_graph, one_lines, one_may, one_must, one_nest, one_system}
 use Rattle.wc_laws.proofs.TellingLemmas.{one_bound, one_solution_fault, solution_of}
-use Rattle.wc_laws.specs.FeatureLaws.{HasOneFeature}
+use Rattle.wc_laws.specs.FeatureLaws.{HasAtMostOneFeature}
 
 -- the kind of a value
 abbrev number_of : Value → ℕ
@@ -70,7 +70,7 @@ refused inputs name fault (value.Solution r) same is also =
     ap (λ (x : Result Solution Fault). value.Solution x) (one_solution_fault inputs name fault r is.1 also.1)
 refused inputs name fault w same is also = absurd (omega (arith, same))
 
-pub one_feature : HasOneFeature
+pub one_feature : HasAtMostOneFeature
 one_feature =
     record {
       one = one_value;

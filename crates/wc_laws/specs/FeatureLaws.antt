@@ -34,7 +34,7 @@ pub record FeatureTells : Type 0 where
 
 -- Each kind but that of solutions has at most one feature. A fault there excludes each other feature, and each solution
 -- is one of the system that is the feature of its kind.
-pub record HasOneFeature : Type 0 where
+pub record HasAtMostOneFeature : Type 0 where
   pub one :
       (inputs : Setting) (name : List ℕ) (kind : ℕ) (v w : Value)
       → (kind ≡ 10 → ⊥) → IsFeature inputs name kind v → IsFeature inputs name kind w → v ≡ w

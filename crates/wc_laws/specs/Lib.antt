@@ -1,3 +1,4 @@
 pub mod FeatureLaws
 pub mod OneOutcome
+pub mod OneSession
 pub mod Safe

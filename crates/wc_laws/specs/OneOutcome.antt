@@ -4,5 +4,5 @@ use Rattle.wc_model.specs.declared.values.Outcome.{Outcome}
 use Rattle.wc_model.specs.Workspace.Chain.{chain}
 use Rattle.wc_model.specs.Workspace.Edits.{Setting}
 
-abbrev pub HasOneOutcome : Type 0
-HasOneOutcome = (inputs : Setting) (name : List ℕ) (a b : Outcome) → chain inputs name a → chain inputs name b → a ≡ b
+abbrev pub HasAtMostOneOutcome : Type 0
+HasAtMostOneOutcome = (inputs : Setting) (name : List ℕ) (a b : Outcome) → chain inputs name a → chain inputs name b → a ≡ b
