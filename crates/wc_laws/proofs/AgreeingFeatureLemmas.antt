@@ -55,7 +55,7 @@ module _ (a b : Setting) (name : List ℕ) (image : a.image ≡ b.image) (steer 
   nests = after_gives _ _ _ _ graphs (λ graph r of. of)
 
   module _ (loops : AgreeOn a b Loops) where
-    bounds_of : (graph : Graph) (nest : Nest) → Gives (BoundsOf a graph nest) (BoundsOf b graph nest)
+    pub bounds_of : (graph : Graph) (nest : Nest) → Gives (BoundsOf a graph nest) (BoundsOf b graph nest)
     bounds_of graph nest (Ok bounds) is =
         bounds_alike (stated a) (stated b) (carried Loops a.facts b.facts loops) (carried Loops b.facts a.facts (sym loops)) graph nest bounds.of is
     bounds_of graph nest (Err fault) is =
@@ -100,7 +100,7 @@ module _ (a b : Setting) (name : List ℕ) (image : a.image ≡ b.image) (steer 
               limits = is.limits ∙ limits_kept graph a.facts ∙ ap (λ (l : List (ℕ × FlowFact)). flat_map (λ f. fact_limits graph f.1) l) limits ∙ sym (limits_kept graph b.facts);
             }
 
-        system_of : (graph : Graph) (nest : Nest) (n : Bounds) (c : Costs) → Gives (SystemOf a graph nest n c) (SystemOf b graph nest n c)
+        pub system_of : (graph : Graph) (nest : Nest) (n : Bounds) (c : Costs) → Gives (SystemOf a graph nest n c) (SystemOf b graph nest n c)
         system_of graph nest n c r (costly system is above) = costly system (system_is graph nest n c system is) above
         system_of graph nest n c r (big system is below wide) = big system (system_is graph nest n c system is) below wide
         system_of graph nest n c r (fine system is) = fine system (record { system_is = system_is graph nest n c system is.system_is; below = is.below; fits_in = is.fits_in })
