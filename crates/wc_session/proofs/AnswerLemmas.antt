@@ -48,8 +48,8 @@ refused_on line (inl is) quit = starts_as_quit line _ (λ e. absurd (omega (arit
 refused_on line (inr is) quit = starts_as_quit line _ (λ e. absurd (omega (arith, e))) is.1 quit
 
 quit_accepted : (image : Image) (line : List ℕ) (fault : Fault) → IsFaulty image line fault → line ≢ codes "quit"
-quit_accepted image line BadCommand is quit = is quits quit
-quit_accepted image line fault is quit = refused_on line is quit
+quit_accepted image line fault (inl is) quit = is.1 quits quit
+quit_accepted image line fault (inr is) quit = refused_on line is quit
 
 ends_at : (image : Image) (line : List ℕ) (c : Command) (end : Option Ended) → IsCommand image line c → EndsAtCommand c end → EndsAtLine (given line) end
 ends_at image line c None is ends = λ quit. ends (quit_alone image line c is quit)

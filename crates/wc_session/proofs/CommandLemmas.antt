@@ -1,5 +1,5 @@
 -- What a line of a script says, and what it doesn't.
-use Rattle.std.proofs.Common.{◌≡◌, ◌≢◌, ℕ, ◌+◌, true, false, List, ◌++◌, length, take, drop, refl, sym, ap, ◌∙◌, subst, nat_eq, take-append-drop, Option, None, Some, IsSome, MatchOption}
+use Rattle.std.proofs.Common.{◌≡◌, ◌≢◌, ℕ, ◌+◌, true, false, List, ◌++◌, length, take, drop, refl, sym, ap, ◌∙◌, subst, nat_eq, take-append-drop, Option, None, Some, MatchOption}
 use Rattle.std.proofs.Math.Seq.{take-append_seam}
 use Rattle.std.proofs.lemmas.Slice.Eq.{bytes_eq-Decides}
 use Rattle.std.specs.Cmp.Lexicographic.{pointwise}
@@ -23,7 +23,3 @@ pub after_cases : {A : Type 0} (now : A → List ℕ) (word line : List ℕ) (r 
     → MatchOption r ((rest : List ℕ) → line ≢ word ++ rest) (λ x. line ≡ word ++ now x)
 after_cases now word line None other = λ rest. no_front word line rest other
 after_cases now word line (Some x) found = front word line found.0 ∙ ap (λ (l : List ℕ). word ++ l) (sym found.1)
-
--- A hardware with a cache.
-pub has_cache : {A : Type 0} (o : Option A) (x : A) → o ≡ Some x → IsSome o
-has_cache o x is = subst IsSome (sym is) refl

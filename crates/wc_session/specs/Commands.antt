@@ -1,17 +1,15 @@
 -- What a line of a session's script says, and which command it is.
-use Rattle.std.specs.Prelude.{◌≡◌, ℕ, ◌^◌, ◌<◌, ◌==◌, Bool, true, false, not, ◌||◌, ◌⊎◌, List, ◌++◌, length, codes, None, IsSome, Result, Ok, Err}
+use Rattle.std.specs.Prelude.{◌≡◌, ℕ, ◌^◌, ◌<◌, ◌==◌, Bool, true, false, not, ◌||◌, ◌⊎◌, List, ◌++◌, length, codes, Result, Ok, Err}
 use Rattle.std.specs.List.{list_all}
 use Rattle.wc_base.specs.Decimals.{IsDecimal}
 use Rattle.wc_base.specs.declared.faults.Fault.{Fault}
-use Rattle.wc_base.specs.declared.faults.Fault.TheVariants.{BadCommand, Unbuilt}
-use Rattle.wc_base.specs.declared.faults.UnbuiltWord.TheVariants.{Facts, Icache}
+use Rattle.wc_base.specs.declared.faults.Fault.TheVariants.{BadCommand}
 use Rattle.wc_base.specs.declared.troubles.Trouble.{Trouble}
 use Rattle.wc_base.specs.declared.troubles.Trouble.TheVariants.{Fault as Refused, Memory}
 use Rattle.wc_f4.specs.Reading.{ReadsOne, names_of}
 use Rattle.wc_model.specs.declared.elf_image.Image.{Image}
 use Rattle.wc_model.specs.declared.flow_facts.Fact.{Fact}
 use Rattle.wc_model.specs.declared.machine.Hardware.{Hardware}
-use Rattle.wc_model.specs.Workspace.Edits.{is_checksum}
 use Rattle.wc_hw.specs.Reading.{ReadsAs}
 use Rattle.wc_session.specs.declared.commands.Command.{Command}
 use Rattle.wc_session.specs.declared.commands.Command.TheVariants as command
@@ -49,47 +47,28 @@ Says line (asks name) = (line ≡ codes "bound " ++ name) × IsName name
 Says line lists = line ≡ codes "list"
 Says line quits = line ≡ codes "quit"
 
--- No fact but a checksum is analysed yet.
-abbrev pub IsBadFact : Image → List ℕ → Fault → Type 0
-IsBadFact image text (Unbuilt Facts) = (fact : Fact) × ReadsOne (names_of image) text (Ok fact) × (is_checksum fact ≡ false)
-IsBadFact image text fault = ReadsOne (names_of image) text (Err (Refused fault))
-
--- Nor is a cache.
-abbrev pub IsBadHardware : List ℕ → Fault → Type 0
-IsBadHardware json (Unbuilt Icache) = (hardware : Hardware) × ReadsAs json (Ok hardware) × IsSome hardware.cache
-IsBadHardware json fault = ReadsAs json (Err (Refused fault))
-
 -- The command of a line that is accepted. Names in a fact are those of the image.
 abbrev pub IsCommand : Image → List ℕ → Command → Type 0
 IsCommand image line command.Blank = Says line blank
 IsCommand image line command.Quit = Says line quits
 IsCommand image line command.List = Says line lists
 IsCommand image line (command.Bound name) = Says line (asks name)
-IsCommand image line (command.Hardware hardware) = (json : List ℕ) × Says line (sets json) × ReadsAs json (Ok hardware) × (hardware.cache ≡ None)
-IsCommand image line (command.Add fact) = (text : List ℕ) × Says line (adds text) × ReadsOne (names_of image) text (Ok fact) × (is_checksum fact ≡ true)
+IsCommand image line (command.Hardware hardware) = (json : List ℕ) × Says line (sets json) × ReadsAs json (Ok hardware)
+IsCommand image line (command.Add fact) = (text : List ℕ) × Says line (adds text) × ReadsOne (names_of image) text (Ok fact)
 IsCommand image line (command.Drop number) = Says line (drops number)
 
 -- The fault of a line that is refused: it has none of the forms, or its fact or its hardware is refused.
 abbrev pub IsFaulty : Image → List ℕ → Fault → Type 0
-IsFaulty image line BadCommand = (form : Form) → Says line form → ⊥
 IsFaulty image line fault =
-    ((text : List ℕ) × Says line (adds text) × IsBadFact image text fault) ⊎ ((json : List ℕ) × Says line (sets json) × IsBadHardware json fault)
+    ((fault ≡ BadCommand) × ((form : Form) → Says line form → ⊥))
+    ⊎ (((text : List ℕ) × Says line (adds text) × ReadsOne (names_of image) text (Err (Refused fault)))
+    ⊎ ((json : List ℕ) × Says line (sets json) × ReadsAs json (Err (Refused fault))))
 
 -- What reading the rest of a line answers, behind the word of its form.
 abbrev pub ReadsName : List ℕ → Result (List ℕ) Trouble → Type 0
 ReadsName bytes (Ok name) = (name ≡ bytes) × IsName bytes
 ReadsName bytes (Err (Refused fault)) = (fault ≡ BadCommand) × (IsName bytes → ⊥)
 ReadsName bytes (Err (Memory _)) = Unit {0}
-
-abbrev pub ReadsTiming : List ℕ → Result Hardware Trouble → Type 0
-ReadsTiming json (Ok hardware) = ReadsAs json (Ok hardware) × (hardware.cache ≡ None)
-ReadsTiming json (Err (Refused fault)) = IsBadHardware json fault
-ReadsTiming json (Err (Memory _)) = Unit {0}
-
-abbrev pub ReadsFact : Image → List ℕ → Result Fact Trouble → Type 0
-ReadsFact image text (Ok fact) = ReadsOne (names_of image) text (Ok fact) × (is_checksum fact ≡ true)
-ReadsFact image text (Err (Refused fault)) = IsBadFact image text fault
-ReadsFact image text (Err (Memory _)) = Unit {0}
 
 -- What reading a line answers. Neither a blank line nor `quit` takes memory.
 abbrev pub Reads : Image → List ℕ → Result Command Trouble → Type 0

@@ -1,8 +1,8 @@
 use crate::{Command, read_command};
 use std::alloc::Global;
 use std::test::Fail;
-use wc_base::{Fault, Trouble, UnbuiltWord};
-use wc_model::{Image, Name, Table};
+use wc_base::{Fault, Trouble};
+use wc_model::{Fact, Image, Name, Table};
 
 // An image without code that has the name `f`.
 fn image(alloc: Global) -> Result<Image, Fail> {
@@ -54,16 +54,15 @@ fn a_command_is_read_from_its_line(rt: HostRuntime) -> Result<(), Fail> {
 #[test]
 fn a_name_in_a_fact_is_that_of_the_image(rt: HostRuntime) -> Result<(), Fail> {
     let image = image(rt.alloc())?;
-    let table = [
-        ("add loop \"f\" 3;", Fault::Unbuilt(UnbuiltWord::Facts)),
-        ("add loop \"g\" 3;", Fault::UnknownLabel(1)),
-    ];
-    for (line, want) in table {
-        let got = match read_command(rt.alloc(), line.as_bytes(), &image) {
-            Err(Trouble::Fault(fault)) => Some(fault),
-            _ => None,
-        };
-        assert_eq!(rt; got, Some(want), "{line:?}");
-    }
+    let known = match read_command(rt.alloc(), b"add noreturn \"f\";", &image)? {
+        Command::Add(Fact::Noreturn { at }) => Some(at),
+        _ => None,
+    };
+    assert_eq!(rt; known, Some(0x8000));
+    let unknown = match read_command(rt.alloc(), b"add noreturn \"g\";", &image) {
+        Err(Trouble::Fault(fault)) => Some(fault),
+        _ => None,
+    };
+    assert_eq!(rt; unknown, Some(Fault::UnknownLabel(1)));
     Ok(())
 }

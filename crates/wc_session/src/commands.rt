@@ -1,12 +1,12 @@
 ghost use Rattle.std.specs.Prelude.{◌≡◌, ◌≢◌, ℕ, not, IfOk, List, ◌++◌, MatchOption};
 ghost use Rattle.std.specs.List.{list_all};
-ghost use Rattle.wc_session.specs.Commands.{is_blank, IsNumber, Reads, ReadsFact, ReadsName, ReadsTiming};
+ghost use Rattle.wc_session.specs.Commands.{is_blank, IsNumber, Reads, ReadsName};
 
 use std::alloc::Global;
-use wc_base::{Fault, Trouble, UnbuiltWord, read_decimal};
+use wc_base::{Fault, Trouble, read_decimal};
 use wc_f4::read_one;
 use wc_hw::read_hardware;
-use wc_model::{Fact, Hardware, Image, Text, is_checksum};
+use wc_model::{Fact, Hardware, Image, Text};
 
 /// What a line of a script asks for.
 #[derive(Debug, Drop)]
@@ -66,36 +66,8 @@ fn read_number(digits: &[u8]) -> Option<u64>
     read_decimal(digits, u64::MAX)
 }
 
-fn read_timing(alloc: Global, json: &[u8]) -> Result<Hardware, Trouble>
-    ensures { ReadsTiming json.now result }
-{
-    match read_hardware(alloc, json) {
-        Ok(hardware) => match hardware.cache {
-            Some(_) => Err(Trouble::Fault(Fault::Unbuilt(UnbuiltWord::Icache))),
-            None => Ok(hardware),
-        },
-        Err(trouble) => Err(trouble),
-    }
-}
-
-fn read_fact(alloc: Global, text: &[u8], image: &Image) -> Result<Fact, Trouble>
-    ensures { ReadsFact image.now text.now result }
-{
-    match read_one(alloc, text, image) {
-        Ok(fact) => {
-            if is_checksum(&fact) {
-                Ok(fact)
-            } else {
-                Err(Trouble::Fault(Fault::Unbuilt(UnbuiltWord::Facts)))
-            }
-        }
-        Err(trouble) => Err(trouble),
-    }
-}
-
 /// The command that a line states. A line of no known form is refused with `BadCommand`, and one that states a fact or
-/// a hardware with the fault of its reader. Facts other than checksums, and caches, are refused, since they aren't
-/// analysed yet.
+/// a hardware with the fault of its reader.
 pub fn read_command(alloc: Global, line: &[u8], image: &Image) -> Result<Command, Trouble>
     ensures { Reads image.now line.now result }
 {
@@ -115,13 +87,13 @@ pub fn read_command(alloc: Global, line: &[u8], image: &Image) -> Result<Command
         };
     }
     if let Some(json) = after(b"hardware ", line) {
-        return match read_timing(alloc, json) {
+        return match read_hardware(alloc, json) {
             Ok(hardware) => Ok(Command::Hardware(hardware)),
             Err(trouble) => Err(trouble),
         };
     }
     if let Some(text) = after(b"add ", line) {
-        return match read_fact(alloc, text, image) {
+        return match read_one(alloc, text, image) {
             Ok(fact) => Ok(Command::Add(fact)),
             Err(trouble) => Err(trouble),
         };

@@ -282,10 +282,6 @@ fn a_line_that_is_refused_says_why(rt: HostRuntime) -> Result<(), Fail> {
         ("hardware  {", "10 BadJson"),
         ("hardware []", "11 BadField root"),
         ("hardware {\"cycles\":{\"alu\":-1}}", "11 BadField alu"),
-        (
-            "hardware {\"icache\":{\"sets\":1,\"ways\":1,\"line\":16,\"hit\":0,\"miss\":9,\"start\":\"any\"}}",
-            "90 Unbuilt icache",
-        ),
         ("hardware {\"icache\":{\"sets\":3}}", "11 BadField sets"),
         ("add", "50 BadCommand"),
         ("add ", "12 BadFact line 1"),
@@ -296,8 +292,6 @@ fn a_line_that_is_refused_says_why(rt: HostRuntime) -> Result<(), Fail> {
             "12 BadFact line 1",
         ),
         ("add loop \"nope\" 3;", "13 UnknownLabel line 1"),
-        ("add loop 0x8004 9;", "90 Unbuilt facts"),
-        ("add limit [0x8004] <= 3;", "90 Unbuilt facts"),
         ("drop", "50 BadCommand"),
         ("drop ", "50 BadCommand"),
         ("drop x", "50 BadCommand"),
@@ -319,6 +313,29 @@ fn a_line_that_is_refused_says_why(rt: HostRuntime) -> Result<(), Fail> {
         want.extend_from_slice(fault.as_bytes())?;
         want.push(b'\n')?;
         assert_eq!(rt; end.sink.held, want, "{line:?}");
+        assert_eq!(rt; end.ended, Ended::End);
+    }
+    Ok(())
+}
+
+#[test]
+fn every_fact_and_every_cache_is_an_edit(rt: HostRuntime) -> Result<(), Fail> {
+    let table = [
+        "add loop 0x8004 9;",
+        "add loop 0x8004 9 in 0x8000;",
+        "add multibranch 0x8004 to 0x8000;",
+        "add noreturn 0x8004;",
+        "add limit [0x8004] <= 3;",
+        "add checksum \"a\" 1;",
+        "hardware {\"icache\":{\"sets\":1,\"ways\":1,\"line\":16,\"hit\":0,\"miss\":9,\"start\":\"any\"}}",
+    ];
+    for line in table {
+        let end = replies(&rt, rt.alloc(), line)?;
+        assert_eq!(rt;
+            end.sink.held.as_slice(),
+            b"edit 2\n".as_slice(),
+            "{line:?}"
+        );
         assert_eq!(rt; end.ended, Ended::End);
     }
     Ok(())

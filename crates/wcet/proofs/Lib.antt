@@ -1,18 +1,13 @@
 mod BoundAnswers
+mod CallLemmas
 mod LoadingLemmas
 mod OneAnswer
+mod OpeningLemmas
 mod ReportLemmas
-mod CallLemmas
 mod ServeAnswers
 mod ServingLemmas
 mod TallyLemmas
-mod OpeningLemmas
-pub mod Answer
-pub mod Definitions
-pub mod Distinct
-pub mod Expanded
-pub mod Expanding
-pub mod Explored
-pub mod Many
-pub mod Numbering
-pub mod Transfer
+pub mod ChainLemmas
+pub mod ChainOnce
+pub mod CostLemmas
+pub mod QuotientLemmas

@@ -1,17 +1,15 @@
 -- Files say one thing: what they hold, or their first fault.
 use Rattle.std.proofs.Common.{◌≡◌, ℕ, Bool, true, false, List, [], Option, Some, None, IfSome, IsSome, Result, Ok, Err, sym, ap, ap₂, subst, ◌∙◌, inl, inr, find, arith}
-use Rattle.std.specs.List.{list_all}
 use Rattle.wc_base.specs.declared.faults.Fault.{Fault as FaultCode}
 use Rattle.wc_base.specs.declared.faults.FileWord.{FileWord}
 use Rattle.wc_base.specs.declared.faults.FileWord.TheVariants.{Binary, Hardware as HardwareFile, Facts as FactsFile}
 use Rattle.wc_base.specs.declared.troubles.Trouble.TheVariants.{Fault as Refused}
 use Rattle.wc_f4.specs.Reading.{ReadsFacts, found, names_of}
 use Rattle.wc_f4.proofs.GivenBack.{gives_all}
-use Rattle.wc_hw.proofs.OneReading.{no_fault, no_cache}
+use Rattle.wc_hw.proofs.OneReading.{no_fault}
 use Rattle.wc_model.specs.declared.elf_image.Image.{Image}
 use Rattle.wc_model.specs.declared.elf_image.Name.{Name}
 use Rattle.wc_model.specs.declared.flow_facts.Fact.{Fact}
-use Rattle.wc_model.specs.Workspace.Edits.{is_checksum}
 use Rattle.wc_model.specs.Workspace.Hardware.{default_hardware}
 use Rattle.wc_model.specs.Program.Image.{names_of as names_in}
 use Rattle.wc_model.specs.Program.Words.{address_of, is_called}
@@ -27,14 +25,10 @@ image_once : SaysOnce ImageSays
 image_once bytes image fault is failed = let none : None ≡ Some fault = sym is.sound ∙ failed in cc
 
 timing_once : SaysOnce TimingSays
-timing_once bytes hardware fault is (inl refused) = no_fault bytes hardware fault is.0 refused
-timing_once bytes hardware fault is (inr (cached, reads, some, _)) = no_cache bytes hardware cached is.0 reads is.1 some
+timing_once bytes hardware fault is refused = no_fault bytes hardware fault is refused
 
 facts_once : (image : Image) → SaysOnce (FactsSay image)
-facts_once image bytes facts fault is (inl refused) = gives_all (names_of image) facts bytes (Err (Refused fault)) is.0 refused
-facts_once image bytes facts fault is (inr (others, reads, some, _)) =
-    let same : others ≡ facts = gives_all (names_of image) facts bytes (Ok others) is.0 reads in
-    let both : true ≡ false = sym is.1 ∙ ap (list_all is_checksum) (sym same) ∙ some in cc
+facts_once image bytes facts fault is refused = gives_all (names_of image) facts bytes (Err (Refused fault)) is refused
 
 within_once : {T : Type 0} (word : FileWord) (says : List ℕ → Result T FaultCode → Type 0) → SaysOnce says → SaysOnce (Within word says)
 within_once word says once bytes x fault is (inl (long, _)) = omega (arith, is.0)
@@ -62,7 +56,7 @@ one_image files tells path image other (b, may, is) (a, told, also) =
 
 same_names : (holds : List ℕ → List ℕ → Type 0) (image other : Image) (path : Option (List ℕ)) (facts : List Fact) → names_of image ≡ names_of other → FactsFileSays holds image path (Ok facts) → FactsFileSays holds other path (Ok facts)
 same_names holds image other None facts same is = is
-same_names holds image other (Some path) facts same (bytes, may, (short, (reads, all))) = (bytes, may, (short, (subst (λ (names : List ℕ → Option ℕ). ReadsFacts names bytes (Ok facts)) same reads, all)))
+same_names holds image other (Some path) facts same (bytes, may, (short, reads)) = (bytes, may, (short, subst (λ (names : List ℕ → Option ℕ). ReadsFacts names bytes (Ok facts)) same reads))
 
 pub inputs_faultless : (files : List ℕ → Option (List ℕ)) (tells : Bool) (paths : Paths) (loaded : Loaded) (fault : FaultCode) (read : List (List ℕ))
     → AreInputs (Holds tells files) paths loaded → IsFirstFault (IsTold files) paths fault read → ⊥

@@ -16,10 +16,7 @@ use Rattle.wc_model.specs.declared.entries.Entry.TheVariants as entry
 use Rattle.wc_model.specs.declared.inputs.Edit.{Edit}
 use Rattle.wc_model.specs.declared.values.Outcome.{Outcome}
 use Rattle.wc_model.specs.declared.values.Outcome.TheVariants as outcome
-use Rattle.wcet.specs.Acyclic.Chain.{chain, bounded}
-use Rattle.wcet.specs.Acyclic.Paths.{IsPath}
-use Rattle.wc_model.specs.Program.Positions.{start_of}
-use Rattle.wc_model.specs.Workspace.Edits.{Setting, edit_of, after_edits}
+use Rattle.wc_model.specs.Workspace.Edits.{edit_of, after_edits}
 use Rattle.wc_model.specs.Workspace.History.{EachRight, IsRight}
 use Rattle.wc_model.specs.Workspace.States.{Opening}
 use Rattle.wc_session.specs.Served.{Gains}
@@ -28,15 +25,9 @@ use Rattle.wcet.specs.declared.loading.Loaded.{Loaded}
 use Rattle.wcet.specs.Answers.{Shows}
 use Rattle.wcet.specs.Opening.{session_rows}
 use Rattle.wcet.specs.ServeCall.{IsEmptied}
-use Rattle.wcet.specs.Session.{IsRun, IsSessionOver, covers, opening_of}
-
--- a bound of the chain covers every path
-chain_covers : (inputs : Setting) (name : List ℕ) (result : Outcome) → chain inputs name result → covers inputs name result
-chain_covers inputs name (outcome.Bound bound) (bounded entry _ found _ greatest) = λ start path is_start is_path.
-    let same : entry ≡ start = cc in
-    greatest.most path (subst (λ (x : ℕ). IsPath inputs.image (map (λ f. f.1) inputs.facts) x (start_of x) path) (sym same) is_path)
-chain_covers inputs name (outcome.Fault fault) is = tt
-chain_covers inputs name outcome.Memory is = tt
+use Rattle.wcet.specs.Chained.{chain, covers}
+use Rattle.wcet.specs.Session.{IsRun, IsSessionOver, opening_of}
+use Rattle.wcet.proofs.ChainLemmas.{chain_covers}
 
 covered : (image : Image) (edits : List Edit) (e : Entry) → IsRight chain image edits e → IsRight covers image edits e
 covered image edits (entry.Answer session name at (outcome.Bound bound)) right = chain_covers (after_edits image at edits) name (outcome.Bound bound) right

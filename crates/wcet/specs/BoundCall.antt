@@ -3,20 +3,26 @@ use Rattle.std.specs.Prelude.{◌<◌, ℕ, List, Option, false}
 use Rattle.wc_base.specs.declared.faults.Fault.{Fault as FaultCode}
 use Rattle.wc_io.specs.Rows.{Row, failed_count}
 use Rattle.wc_model.specs.declared.values.Outcome.{Outcome}
-use Rattle.wcet.specs.Acyclic.Chain.{IsChain}
+use Rattle.wc_model.specs.Workspace.Edits.{Setting, numbered}
 use Rattle.wcet.specs.declared.answers.Answer.{Answer}
 use Rattle.wcet.specs.declared.answers.Answer.TheVariants as answer
 use Rattle.wcet.specs.declared.loading.Loaded.{Loaded}
 use Rattle.wcet.specs.Answers.{outcome_line, refusal}
+use Rattle.wcet.specs.Chained.{chain, covers, given}
 use Rattle.wcet.specs.Files.{IsTold, AreTold, AreInputs, IsFirstFault, paths_of}
 use Rattle.wcet.specs.Loading.{OpensAll, OpensSome, IsRefused, IsUnfinished, IsUnread}
 use Rattle.wcet.specs.Words.{Paths, IsBoundCall}
+
+-- the inputs that files state: the hardware is edit 1, and the facts are the edits from 2 on
+abbrev pub setting_in : Loaded → Setting
+setting_in loaded = given loaded.image (numbered 2 loaded.facts.items) loaded.hardware
 
 -- the outcome of the named function on what the files say
 pub record IsAnalysed (holds : List ℕ → List ℕ → Type 0) (paths : Paths) (name : List ℕ) (old new : List Row) (outcome : Outcome) : Type 0 where
   pub loaded : Loaded
   pub inputs : AreInputs holds paths loaded
-  pub chain : IsChain loaded.image loaded.facts.items loaded.hardware name outcome
+  pub outcome_is : chain (setting_in loaded) name outcome
+  pub safe : covers (setting_in loaded) name outcome
   pub opened : OpensAll (paths_of paths) old new
 
 -- why each answer comes, from the bytes that files may have and the rows that the house has then

@@ -1,18 +1,15 @@
 -- What the files of a call say, and the first fault among them, in the order in which they are read.
 use Rattle.std.specs.Prelude.{◌≡◌, ◌<◌, ◌≤◌, ℕ, Bool, true, false, List, [], ◌∷◌, ◌++◌, length, Option, Some, None, IsSome, IfSome, ◌⊎◌, Result, Ok, Err}
-use Rattle.std.specs.List.{list_all}
 use Rattle.wc_base.specs.declared.faults.Fault.{Fault as FaultCode}
-use Rattle.wc_base.specs.declared.faults.Fault.TheVariants.{LongFile, Unbuilt}
+use Rattle.wc_base.specs.declared.faults.Fault.TheVariants.{LongFile}
 use Rattle.wc_base.specs.declared.faults.FileWord.{FileWord}
 use Rattle.wc_base.specs.declared.faults.FileWord.TheVariants.{Binary, Hardware as HardwareFile, Facts as FactsFile}
-use Rattle.wc_base.specs.declared.faults.UnbuiltWord.TheVariants.{Icache, Facts as OfFacts}
 use Rattle.wc_base.specs.declared.troubles.Trouble.TheVariants.{Fault as Refused}
 use Rattle.wc_f4.specs.Reading.{ReadsFacts, names_of}
 use Rattle.wc_hw.specs.Reading.{ReadsAs}
 use Rattle.wc_model.specs.declared.elf_image.Image.{Image}
 use Rattle.wc_model.specs.declared.flow_facts.Fact.{Fact}
 use Rattle.wc_model.specs.declared.machine.Hardware.{Hardware}
-use Rattle.wc_model.specs.Workspace.Edits.{is_checksum}
 use Rattle.wc_model.specs.Workspace.Hardware.{default_hardware}
 use Rattle.wc_model.specs.Program.Image.{image_fault, IsImageOf}
 use Rattle.wcet.specs.declared.loading.Loaded.{Loaded}
@@ -41,16 +38,15 @@ abbrev pub ImageSays : List ℕ → Result Image FaultCode → Type 0
 ImageSays bytes (Ok image) = IsImageOf bytes image
 ImageSays bytes (Err fault) = image_fault bytes ≡ Some fault
 
--- the hardware, a fault of its text, or a cache, which isn't analysed yet
+-- the hardware, or a fault of its text
 abbrev pub TimingSays : List ℕ → Result Hardware FaultCode → Type 0
-TimingSays bytes (Ok hardware) = ReadsAs bytes (Ok hardware) × (hardware.cache ≡ None)
-TimingSays bytes (Err fault) = ReadsAs bytes (Err (Refused fault)) ⊎ ((hardware : Hardware) × ReadsAs bytes (Ok hardware) × IsSome hardware.cache × (fault ≡ Unbuilt Icache))
+TimingSays bytes (Ok hardware) = ReadsAs bytes (Ok hardware)
+TimingSays bytes (Err fault) = ReadsAs bytes (Err (Refused fault))
 
--- the facts, a fault of their text, or one that is no checksum, which isn't analysed yet; names are those of the image
+-- the facts, or a fault of their text; names are those of the image
 abbrev pub FactsSay : Image → List ℕ → Result (List Fact) FaultCode → Type 0
-FactsSay image bytes (Ok facts) = ReadsFacts (names_of image) bytes (Ok facts) × (list_all is_checksum facts ≡ true)
-FactsSay image bytes (Err fault) =
-    ReadsFacts (names_of image) bytes (Err (Refused fault)) ⊎ ((facts : List Fact) × ReadsFacts (names_of image) bytes (Ok facts) × (list_all is_checksum facts ≡ false) × (fault ≡ Unbuilt OfFacts))
+FactsSay image bytes (Ok facts) = ReadsFacts (names_of image) bytes (Ok facts)
+FactsSay image bytes (Err fault) = ReadsFacts (names_of image) bytes (Err (Refused fault))
 
 -- bytes that the file may have say so
 abbrev pub FileSays : {T : Type 0} → (List ℕ → Type 0) → (List ℕ → Result T FaultCode → Type 0) → Result T FaultCode → Type 0

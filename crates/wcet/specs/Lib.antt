@@ -1,14 +1,13 @@
-pub mod Acyclic
+pub mod Agreeing
 pub mod Answers
 pub mod BoundCall
-pub mod Exploring
+pub mod Chained
+pub mod Feature
 pub mod Files
 pub mod Loading
-pub mod Numbers
 pub mod ReportText
 pub mod ServeCall
 pub mod Session
 pub mod Starts
 pub mod Opening
-pub mod Ways
 pub mod Words

@@ -1,5 +1,5 @@
 -- The session of the command `serve`: one legal history, and the replies and bounds that are those of its entries.
-use Rattle.std.specs.Prelude.{◌≡◌, ◌≤◌, ℕ, Bool, true, false, List, [], ◌∷◌, ◌++◌, map, Option, Some, Ok, IfSome, IsSome, IsTrue}
+use Rattle.std.specs.Prelude.{◌≡◌, ℕ, Bool, true, false, List, [], ◌∷◌, ◌++◌, Option, Some, IfSome, IsSome, IsTrue}
 use Rattle.wc_core.specs.Holds.{plain_opening}
 use Rattle.wc_io.specs.Lines.{LineResult, lines_of}
 use Rattle.wc_io.specs.Rows.{Row, row_failed}
@@ -7,27 +7,14 @@ use Rattle.wc_io.specs.Telling.{TellsFile}
 use Rattle.wc_model.specs.declared.entries.Ended.{Ended}
 use Rattle.wc_model.specs.declared.entries.Ended.TheVariants.{ReadFault, WriteFault}
 use Rattle.wc_model.specs.declared.entries.Entry.{Entry}
-use Rattle.wc_model.specs.declared.values.Outcome.TheVariants.{Bound, Fault, Memory}
-use Rattle.wcet.specs.Acyclic.Chain.{chain}
 use Rattle.wc_model.specs.Workspace.History.{Chain, EachRight, IsLegal, opening_entries}
 use Rattle.wc_model.specs.Workspace.States.{Opening}
-use Rattle.wcet.specs.Acyclic.Paths.{IsPath, path_cycles}
-use Rattle.wc_model.specs.Program.Positions.{start_of}
-use Rattle.wc_model.specs.Program.Steps.{Step}
-use Rattle.wc_model.specs.Program.Words.{find_of}
 use Rattle.wc_session.specs.Served.{IsServed}
 use Rattle.wcet.specs.declared.loading.Loaded.{Loaded}
+use Rattle.wcet.specs.Chained.{chain, covers}
 use Rattle.wcet.specs.Files.{Holds, AreInputs, paths_of}
 use Rattle.wcet.specs.Loading.{OpensAll}
 use Rattle.wcet.specs.Words.{Paths}
-
--- a bound is at least the cycles of every path of the named function on these inputs
-abbrev pub covers : Chain
-covers inputs name (Bound bound) =
-    (start : ℕ) (path : List Step) → find_of inputs.image name ≡ Ok start → IsPath inputs.image (map (λ f. f.1) inputs.facts) start (start_of start) path
-    → path_cycles inputs.image inputs.hardware.cycles path ≤ bound
-covers inputs name (Fault fault) = Unit {0}
-covers inputs name Memory = Unit {0}
 
 -- the workspace that is opened with what the files of a call say
 abbrev pub opening_of : Loaded → Opening

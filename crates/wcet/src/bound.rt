@@ -4,9 +4,9 @@ ghost use Rattle.wc_base.specs.declared.faults.Fault.{Fault as FaultCode};
 ghost use Rattle.wc_io.specs.Causes.{Rose};
 ghost use Rattle.wc_io.specs.Rows.{failed_count};
 ghost use Rattle.wc_io.specs.Writing.{AppendsPart};
-ghost use Rattle.wcet.specs.Acyclic.Chain.{IsChain};
 ghost use Rattle.wcet.specs.Answers.{Shows};
-ghost use Rattle.wcet.specs.BoundCall.{Explains, Prints, Refuses, RunsOut, HasFault, AreSound, Opens, StopsReading};
+ghost use Rattle.wcet.specs.Chained.{chain as chain_of, covers};
+ghost use Rattle.wcet.specs.BoundCall.{setting_in, Explains, Prints, Refuses, RunsOut, HasFault, AreSound, Opens, StopsReading};
 ghost use Rattle.wcet.specs.Files.{Holds};
 ghost use Rattle.wcet.specs.Words.{IsFaultyCall, paths_in};
 
@@ -20,11 +20,18 @@ use std::thread::Threads;
 use wc_io::{House, Sink};
 use wc_model::{Outcome, opening_facts};
 
-fn outcome_of(alloc: Global, loaded: Loaded, name: &str) -> Result<Outcome, AllocError>
-    ensures { IfOk result (IsChain loaded.image loaded.facts.items loaded.hardware name.now) }
+fn outcome_of<R: Threads + Sync>(
+    rt: &R,
+    alloc: Global,
+    loaded: Loaded,
+    name: &str,
+) -> Result<Outcome, AllocError>
+    ensures outcome { IfOk result (chain_of (setting_in loaded) name.now) }
+    ensures safe { IfOk result (covers (setting_in loaded) name.now) }
 {
     let facts = opening_facts(alloc, loaded.facts.as_slice())?;
     chain(
+        rt,
         alloc,
         &loaded.image,
         &facts,
@@ -33,13 +40,18 @@ fn outcome_of(alloc: Global, loaded: Loaded, name: &str) -> Result<Outcome, Allo
     )
 }
 
-fn answer_to<H: House>(alloc: Global, call: &BoundCall, house: &mut H) -> Answer
+fn answer_to<R: Threads + Sync, H: House>(
+    rt: &R,
+    alloc: Global,
+    call: &BoundCall,
+    house: &mut H,
+) -> Answer
     ensures answer { Explains (Holds (H.tells house.old) (H.file house.old)) (paths_in call.now.paths) call.now.name.now (H.opened house.old) (H.opened house.new) result }
     ensures files { (p : List ℕ) → H.file house.new p ≡ H.file house.old p }
     ensures tells { H.tells house.new ≡ H.tells house.old }
 {
     match load(alloc, house, &call.paths) {
-        Ok(loaded) => match outcome_of(alloc, loaded, call.name) {
+        Ok(loaded) => match outcome_of(rt, alloc, loaded, call.name) {
             Ok(outcome) => Answer::Analysed(outcome),
             Err(AllocError) => Answer::Memory,
         },
@@ -94,7 +106,7 @@ pub fn bound_once<R: Threads + Sync, H: House, K: Sink>(
     match bound_call(words) {
         None => finish(out, "", &Answer::Usage),
         Some(call) => {
-            let answer = answer_to(alloc, &call, house);
+            let answer = answer_to(rt, alloc, &call, house);
             finish(out, call.name, &answer)
         }
     }

@@ -89,8 +89,8 @@ fn a_hardware_file_is_refused_for_its_first_fault(rt: HostRuntime) -> Result<(),
             "refused 11 BadField start\n",
         ),
         (
-            "{\"icache\":{\"sets\":1,\"ways\":2,\"line\":16,\"hit\":0,\"miss\":10,\"start\":\"any\"}}",
-            "refused 90 Unbuilt icache\n",
+            "{\"icache\":{\"sets\":1,\"ways\":2,\"line\":16,\"hit\":5,\"miss\":4,\"start\":\"any\"}}",
+            "refused 11 BadField miss\n",
         ),
     ] {
         let (status, wrote) = outcome_on(&rt, alloc, &STRAIGHT, hardware)?;

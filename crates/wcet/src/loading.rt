@@ -1,20 +1,18 @@
 //! The files of a call, read and decoded one after the other.
 ghost use Rattle.std.specs.Prelude.{◌≡◌, ℕ, List, option_map};
-ghost use Rattle.std.specs.List.{list_all};
 ghost use Rattle.wc_base.specs.declared.faults.FileWord.TheVariants.{Binary};
-ghost use Rattle.wc_model.specs.Workspace.Edits.{is_checksum as is_checksum_of};
 ghost use Rattle.wcet.specs.Files.{FactsFileSays, FactsSay, HardwareSays, Holds, ImageSays, TimingSays, Within};
 ghost use Rattle.wcet.specs.Loading.{AreBytes, Decodes, LoadsFile, LoadsOptional, Loads, listed};
 ghost use Rattle.wcet.specs.Words.{paths_in};
 
 use crate::words::InputPaths;
 use std::alloc::Global;
-use wc_base::{Fault, FileWord, Trouble, UnbuiltWord};
+use wc_base::{Fault, FileWord, Trouble};
 use wc_elf::read_image;
 use wc_f4::read_facts;
 use wc_hw::read_hardware;
 use wc_io::{House, ReadWhole, read_file};
-use wc_model::{Fact, Hardware, Image, default_hardware, is_checksum};
+use wc_model::{Fact, Hardware, Image, default_hardware};
 
 /// The longest file that is read, in bytes.
 pub const MOST_BYTES: usize = 16_777_216;
@@ -68,32 +66,17 @@ fn decode_hardware(alloc: Global, bytes: &[u8]) -> Result<Hardware, Unloaded>
     ensures { Decodes TimingSays bytes.now result }
 {
     match read_hardware(alloc, bytes) {
-        Ok(hardware) => match hardware.cache {
-            None => Ok(hardware),
-            Some(_) => Err(Unloaded::Refused(Fault::Unbuilt(UnbuiltWord::Icache))),
-        },
+        Ok(hardware) => Ok(hardware),
         Err(Trouble::Fault(fault)) => Err(Unloaded::Refused(fault)),
         Err(Trouble::Memory(_)) => Err(Unloaded::Memory),
     }
-}
-
-fn are_checksums(facts: &[Fact]) -> bool
-    ensures { result ≡ list_all is_checksum_of facts.now }
-{
-    facts.iter().all(|fact| is_checksum(fact))
 }
 
 fn decode_facts(alloc: Global, bytes: &[u8], image: &Image) -> Result<Vec<Fact>, Unloaded>
     ensures { Decodes (FactsSay image.now) bytes.now (listed result) }
 {
     match read_facts(alloc, bytes, image) {
-        Ok(facts) => {
-            if are_checksums(facts.as_slice()) {
-                Ok(facts)
-            } else {
-                Err(Unloaded::Refused(Fault::Unbuilt(UnbuiltWord::Facts)))
-            }
-        }
+        Ok(facts) => Ok(facts),
         Err(Trouble::Fault(fault)) => Err(Unloaded::Refused(fault)),
         Err(Trouble::Memory(_)) => Err(Unloaded::Memory),
     }
@@ -111,7 +94,7 @@ pub fn load_binary<H: House>(alloc: Global, house: &mut H, path: &str) -> Result
     }
 }
 
-/// The hardware that a file states, which has no cache, or the default one where no path is given.
+/// The hardware that a file states, or the default one where no path is given.
 pub fn load_hardware<H: House>(
     alloc: Global,
     house: &mut H,
@@ -130,7 +113,7 @@ pub fn load_hardware<H: House>(
     }
 }
 
-/// The facts that a file states, which are checksums, or none where no path is given. Names are those of the image.
+/// The facts that a file states, or none where no path is given. Names are those of the image.
 pub fn load_facts<H: House>(
     alloc: Global,
     house: &mut H,

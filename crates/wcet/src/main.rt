@@ -5,11 +5,15 @@ mod answers;
 mod bound;
 mod chain;
 #[cfg(test)]
+mod chain_tests;
+mod costs;
+#[cfg(test)]
 mod facts_tests;
 #[cfg(test)]
 mod hardware_tests;
 mod loading;
 mod opening;
+mod optimum;
 mod report;
 mod running;
 mod serve;

@@ -5,8 +5,8 @@ ghost use Rattle.wc_core.specs.Features.{Each};
 ghost use Rattle.wc_core.specs.Holds.{bound_alone};
 ghost use Rattle.wc_io.specs.Causes.{Rose};
 ghost use Rattle.wc_io.specs.Lines.{lines_of};
-ghost use Rattle.wcet.specs.Acyclic.Chain.{chain};
 ghost use Rattle.wc_model.specs.Workspace.History.{IsLegal, opening_entries};
+ghost use Rattle.wcet.specs.Chained.{chain};
 ghost use Rattle.wcet.specs.ReportText.{IsOfKinds};
 ghost use Rattle.wcet.specs.Session.{IsRun, opening_of};
 ghost use Rattle.wcet.specs.Starts.{all_starts, bound_runs};
@@ -15,6 +15,7 @@ use crate::loading::Loaded;
 use crate::work::{ChainWork, bound_describes};
 use std::alloc::{AllocError, Global};
 use std::sync::{Arc, Wait};
+use std::thread::Threads;
 use wc_core::{Core, Work};
 use wc_io::{Lines, Sink, Source};
 use wc_model::{Ended, Entry, Image};
@@ -130,7 +131,7 @@ pub fn run_session<R: Wait, W: Work + Send, S: Source + Drop, K: Sink + Drop>(
 }
 
 /// The session by the shipped work, whose runs are the starts of the bound.
-pub fn run_shipped<R: Wait, S: Source + Drop, K: Sink + Drop>(
+pub fn run_shipped<R: Threads + Wait + Sync, S: Source + Drop, K: Sink + Drop>(
     rt: &R,
     alloc: Global,
     loaded: Loaded,
@@ -147,7 +148,7 @@ pub fn run_shipped<R: Wait, S: Source + Drop, K: Sink + Drop>(
     ensures write_fault { IfOk result (λ r. r.ended ≡ Ended.WriteFault → Rose (K.faults sink) (K.faults r.sink)) }
 {
     let mut works = Vec::new(alloc);
-    let Ok(()) = works.push(ChainWork::new()) else {
+    let Ok(()) = works.push(ChainWork::new(rt)) else {
         return Err((source, sink));
     };
     match run_session(rt, alloc, loaded, works, source, sink) {

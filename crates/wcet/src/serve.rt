@@ -55,7 +55,7 @@ impl From<Unopened> for Unserved {
 }
 
 // Opens the session's files, runs it, and gives them back.
-fn run_loaded<R: Wait, H: House>(
+fn run_loaded<R: Threads + Wait + Sync, H: House>(
     rt: &R,
     alloc: Global,
     loaded: Loaded,
@@ -94,7 +94,7 @@ fn run_loaded<R: Wait, H: House>(
     }
 }
 
-fn serve_files<R: Wait, H: House>(
+fn serve_files<R: Threads + Wait + Sync, H: House>(
     rt: &R,
     alloc: Global,
     call: &ServeCall,

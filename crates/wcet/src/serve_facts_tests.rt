@@ -94,14 +94,6 @@ fn the_facts_are_read_before_the_session_is_opened(rt: HostRuntime) -> Result<()
             2,
         ),
         (
-            "serve a.elf f.ff - in out",
-            "{}",
-            "loop \"f\" 3;",
-            6,
-            "refused 90 Unbuilt facts\n",
-            2,
-        ),
-        (
             "serve a.elf none h.json in out",
             "{}",
             "",

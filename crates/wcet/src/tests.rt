@@ -153,7 +153,6 @@ fn outcome_of<R: Threads + Sync>(
 #[test]
 fn a_bound_is_the_greatest_cost_over_all_paths(rt: HostRuntime) -> Result<(), Fail> {
     let alloc = rt.alloc();
-    let unbuilt = "refused 90 Unbuilt code\n";
     for (code, text) in [
         // cmp; beq over two words; the fall-through is longer than the jump
         (
@@ -197,7 +196,7 @@ fn a_bound_is_the_greatest_cost_over_all_paths(rt: HostRuntime) -> Result<(), Fa
                 0xE3A0_0001,
                 0xE12F_FF1E,
             ],
-            unbuilt,
+            "refused 21 OutOfText 0x0000804c\n",
         ),
         // a jump to itself
         (
@@ -208,9 +207,9 @@ fn a_bound_is_the_greatest_cost_over_all_paths(rt: HostRuntime) -> Result<(), Fa
                 0xE3A0_0001,
                 0xE12F_FF1E,
             ],
-            unbuilt,
+            "refused 25 NoExit\n",
         ),
-        // a loop beside an exit
+        // a way that doesn't come to the exit
         (
             [
                 0xE350_0000,
@@ -219,7 +218,7 @@ fn a_bound_is_the_greatest_cost_over_all_paths(rt: HostRuntime) -> Result<(), Fa
                 0xE12F_FF1E,
                 0xEAFF_FFFE,
             ],
-            unbuilt,
+            "bound f 4\n",
         ),
         // a loop of two words
         (
@@ -230,7 +229,7 @@ fn a_bound_is_the_greatest_cost_over_all_paths(rt: HostRuntime) -> Result<(), Fa
                 0xE3A0_0001,
                 0xE12F_FF1E,
             ],
-            unbuilt,
+            "refused 31 Unbounded 0x00008004\n",
         ),
         // the code ends without a return
         (
@@ -241,7 +240,7 @@ fn a_bound_is_the_greatest_cost_over_all_paths(rt: HostRuntime) -> Result<(), Fa
                 0xE3A0_0001,
                 0xE3A0_0001,
             ],
-            unbuilt,
+            "refused 21 OutOfText 0x00008014\n",
         ),
         // a word that is no instruction, and a jump to what a register says
         (
@@ -252,7 +251,7 @@ fn a_bound_is_the_greatest_cost_over_all_paths(rt: HostRuntime) -> Result<(), Fa
                 0xE3A0_0001,
                 0xE12F_FF1E,
             ],
-            unbuilt,
+            "refused 22 UnknownInstruction 0x00008004\n",
         ),
         (
             [
@@ -262,7 +261,7 @@ fn a_bound_is_the_greatest_cost_over_all_paths(rt: HostRuntime) -> Result<(), Fa
                 0xE3A0_0001,
                 0xE12F_FF1E,
             ],
-            unbuilt,
+            "refused 23 Unresolved 0x00008004\n",
         ),
     ] {
         let (_, wrote) = outcome_of(&rt, alloc, &code)?;
@@ -292,7 +291,7 @@ fn at_most_a_hundred_thousand_positions_are_analysed(rt: HostRuntime) -> Result<
     let alloc = rt.alloc();
     for (count, text) in [
         (99_999, "bound f 100000\n"),
-        (100_000, "refused 90 Unbuilt code\n"),
+        (100_000, "refused 20 TooLarge\n"),
     ] {
         let mut code = vec![in alloc; 0xE1A0_0000; count]?;
         code.push(0xE12F_FF1E)?;

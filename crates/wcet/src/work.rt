@@ -1,26 +1,28 @@
 ghost use Rattle.std.specs.Prelude.{◌≡◌, ◌∷◌, [], Some, IfOk};
 ghost use Rattle.wc_core.specs.Holds.{bound_alone};
-ghost use Rattle.wcet.specs.Acyclic.Feature.{outcome_of as outcome_of_bound};
+ghost use Rattle.wcet.specs.Feature.{outcome_of as outcome_of_bound};
 ghost use Rattle.wc_model.specs.Workspace.History.{bound_kind as bound_kind_of};
 
 use crate::chain::chain;
 use std::alloc::{AllocError, Global};
 use std::sync::Arc;
+use std::thread::Threads;
 use wc_base::Fault;
 use wc_core::{Given, Job, Work};
 use wc_model::{Describe, Kind, Outcome, Part, Table};
 
-/// The work of a workspace that computes bounds alone: it runs the whole chain.
+/// The work of a workspace that computes bounds alone: it runs the whole chain, and holds the runtime for it.
 #[derive(Drop)]
-pub struct ChainWork {
+pub struct ChainWork<'a, R: Threads + Sync> {
+    rt: &'a R,
     runs: u64,
 }
 
-impl ChainWork {
-    pub fn new() -> Self
+impl<'a, R: Threads + Sync> ChainWork<'a, R> {
+    pub fn new(rt: &'a R) -> Self
         ensures { result.runs ≡ 0 }
     {
-        ChainWork { runs: 0 }
+        ChainWork { rt, runs: 0 }
     }
 }
 
@@ -45,17 +47,18 @@ fn bound_of(outcome: Outcome) -> Result<Result<u128, Fault>, AllocError>
     }
 }
 
-impl Work for ChainWork {
+impl<'a, R: Threads + Sync> Work for ChainWork<'a, R> {
     type Value = Result<u128, Fault>;
 
     ghost use Rattle.std.specs.Prelude.{◌∷◌, [], Some};
+    ghost use Rattle.std.specs.Thread.{IsSync};
     ghost use Rattle.wc_core.specs.Holds.{bound_alone};
     ghost use Rattle.wc_model.specs.Workspace.History.{bound_kind as bound_kind_of};
-    ghost use Rattle.wcet.specs.Acyclic.Agreeing.{stable_feature, feature_tells};
-    ghost use Rattle.wcet.specs.Acyclic.Chain.{chain as chain_of};
-    ghost use Rattle.wcet.specs.Acyclic.Feature.{IsFeature, outcome_of as outcome_of_bound};
+    ghost use Rattle.wcet.specs.Agreeing.{stable_feature, feature_tells};
+    ghost use Rattle.wcet.specs.Chained.{chain as chain_of};
+    ghost use Rattle.wcet.specs.Feature.{IsFeature, outcome_of as outcome_of_bound};
 
-    ghost may_run = { λ _. Unit {0} };
+    ghost may_run = { λ _. IsSync R.row };
 
     ghost kind_of = { λ _. bound_kind_of };
 
@@ -86,6 +89,7 @@ impl Work for ChainWork {
         self.runs += 1;
         let inputs = &job.inputs;
         let outcome = chain(
+            self.rt,
             alloc,
             &inputs.image,
             &inputs.facts,

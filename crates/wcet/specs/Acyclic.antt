@@ -1,4 +1,0 @@
-pub mod Agreeing
-pub mod Chain
-pub mod Feature
-pub mod Paths
