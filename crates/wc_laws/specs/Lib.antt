@@ -2,3 +2,4 @@ pub mod FeatureLaws
 pub mod OneOutcome
 pub mod OneSession
 pub mod Safe
+pub mod WithoutMay

@@ -5,6 +5,7 @@ ghost use Rattle.wc_laws.specs.FeatureLaws.{FeatureTells, FeaturesAgree, HasAtMo
 ghost use Rattle.wc_laws.specs.OneOutcome.{HasAtMostOneOutcome};
 ghost use Rattle.wc_laws.specs.OneSession.{OneFront, OneHistory};
 ghost use Rattle.wc_laws.specs.Safe.{ChainIsSafe};
+ghost use Rattle.wc_laws.specs.WithoutMay.{CostsNeedNoMay, MayFlagsExist};
 
 /// A law alone: each bound of the chain is at least the cycles of every path that meets the facts.
 pub fn chain_is_safe()
@@ -29,6 +30,16 @@ pub fn feature_tells()
 /// A law alone: each kind but that of solutions has at most one feature.
 pub fn one_feature()
     ensures { HasAtMostOneFeature }
+{}
+
+/// A law alone: every graph has flags of may.
+pub fn may_flags_exist()
+    ensures { MayFlagsExist }
+{}
+
+/// A law alone: the costs of a graph's steps are found from must alone.
+pub fn costs_need_no_may()
+    ensures { CostsNeedNoMay }
 {}
 
 /// What names the outcomes of a workspace: the chain that its history is about.

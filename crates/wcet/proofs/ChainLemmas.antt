@@ -24,12 +24,12 @@ use Rattle.wc_model.specs.Flow.Certificates.{IsBound, SolutionHolds}
 use Rattle.wc_model.specs.Flow.Nest.{IsNest, IsNestFault}
 use Rattle.wc_model.specs.Program.Graphs.{IsGraphOf}
 use Rattle.wc_model.specs.Program.Words.{find_of}
-use Rattle.wc_model.specs.Workspace.Chain.{ChainResult}
 use Rattle.wc_model.specs.Workspace.Edits.{Setting}
 use Rattle.wc_model.specs.Workspace.Phases.{After, BoundOf, BoundsOf, GraphOf, IsSystemResult, NestOf, SolutionOf, SystemOf, fine, limited, stated, stopped, went_on, whole}
 use Rattle.wc_nestsolve.specs.Given.{IsSystemIn}
 use Rattle.wc_system.specs.Answers.{Answers}
-use Rattle.wcet.specs.Chained.{Chained, ResultOf, SolvedAs, chain, covers, unlimited}
+use Rattle.wcet.specs.Chained.{Chained, covers}
+use Rattle.wc_model.specs.Workspace.Chain.{ChainResult, chain}
 use Rattle.wc_laws.proofs.SafeLemmas.{chain_is_safe}
 
 -- One phase after another.
@@ -63,7 +63,7 @@ passed_on inputs name (Ok bound) trouble is ends = absurd is
 passed_on inputs name (Err other) trouble is ends = subst (λ (t : Trouble). Chained inputs name (Err t)) (sym is) ends
 
 -- the fault of a refusal
-pub refused_by : (inputs : Setting) (name : List ℕ) (result : Result ℕ Trouble) (trouble : Trouble) (fault : Fault) → result ≡ Err trouble → trouble ≡ Refused fault → Chained inputs name result → ResultOf inputs name (Err fault)
+pub refused_by : (inputs : Setting) (name : List ℕ) (result : Result ℕ Trouble) (trouble : Trouble) (fault : Fault) → result ≡ Err trouble → trouble ≡ Refused fault → Chained inputs name result → ChainResult inputs name (Err fault)
 refused_by inputs name result trouble fault is refused ends = subst (λ (r : Result ℕ Trouble). Chained inputs name r) (is ∙ ap Err refused) ends
 
 -- Whether limits are stated.
@@ -76,9 +76,9 @@ pub some_items : (limits items : List SystemLimit) → items ≡ limits → fals
 some_items limits [] same is none = let wrong : false ≡ true = is in absurd (cc)
 some_items limits (x ∷ items) same is none = let wrong : x ∷ items ≡ [] = same ∙ none in absurd (cc)
 
-pub solution_holds : (system : System) (solution : Solution) → SolvedAs system (Ok solution) → SolutionHolds system solution
-solution_holds system solution (unlimited _ none (whole _ also holds is)) = holds
-solution_holds system solution (unlimited _ none (limited _ found some is holds)) = holds
+pub solution_holds : (system : System) (solution : Solution) → SolutionOf system (Ok solution) → SolutionHolds system solution
+solution_holds system solution (whole _ none holds is) = holds
+solution_holds system solution (limited _ found some is holds) = holds
 
 -- Where the chain ends, by what the phases up to there gave.
 module _ (inputs : Setting) (name : List ℕ) where
@@ -119,33 +119,19 @@ module _ (inputs : Setting) (name : List ℕ) where
             system_is = (system_result inputs graph nest bounds costs system is).system_is;
           }
 
-          solved : (result : Result ℕ Trouble) → Answers (After (SolvedAs system) (λ solution. BoundOf system)) result → Chained inputs name result
+          solved : (result : Result ℕ Trouble) → Answers (After (SolutionOf system) (λ solution. BoundOf system)) result → Chained inputs name result
           solved result ends =
               goes_on _ _ graph result has_graph (goes_on _ _ nest result nest_is (goes_on _ _ bounds result are
               (goes_on _ _ costs result costs_are (goes_on _ _ system result is ends))))
 
-          pub no_solution : (trouble : Trouble) → Answers (SolvedAs system) (Err trouble) → Chained inputs name (Err trouble)
-          no_solution trouble none = solved (Err trouble) (stops (SolvedAs system) _ trouble none)
+          pub no_solution : (trouble : Trouble) → Answers (SolutionOf system) (Err trouble) → Chained inputs name (Err trouble)
+          no_solution trouble none = solved (Err trouble) (stops (SolutionOf system) _ trouble none)
 
-          pub has_bound : (solution : Solution) (bound : ℕ) → SolvedAs system (Ok solution) → IsBound system bound → Chained inputs name (Ok bound)
+          pub has_bound : (solution : Solution) (bound : ℕ) → SolutionOf system (Ok solution) → IsBound system bound → Chained inputs name (Ok bound)
           has_bound solution bound some bounded = solved (Ok bound) (went_on solution (Ok bound) some bounded)
 
--- A bound of what is shipped is one of the whole chain, so it is at least the cycles of every path.
-
-solved_ok : (system : System) (solution : Solution) → SolvedAs system (Ok solution) → SolutionOf system (Ok solution)
-solved_ok system solution (unlimited _ none is) = is
-
-ok_alike : {A B : Type 0} (First Also : Result A Fault → Type 0) (Second Then : A → Result B Fault → Type 0) → ((a : A) → First (Ok a) → Also (Ok a)) → ((a : A) (b : B) → Second a (Ok b) → Then a (Ok b))
-    → (b : B) → After First Second (Ok b) → After Also Then (Ok b)
-ok_alike First Also Second Then first second b (went_on a _ is rest) = went_on a (Ok b) (first a is) (second a b rest)
-
-chain_result : (inputs : Setting) (name : List ℕ) (bound : ℕ) → ResultOf inputs name (Ok bound) → ChainResult inputs name (Ok bound)
-chain_result inputs name bound is =
-    ok_alike _ _ _ _ (λ graph of. of) (λ graph. ok_alike _ _ _ _ (λ nest of. of) (λ nest.
-    ok_alike _ _ _ _ (λ bounds of. of) (λ bounds. ok_alike _ _ _ _ (λ costs of. of) (λ costs.
-    ok_alike _ _ _ _ (λ system of. of) (λ system. ok_alike _ _ _ _ (solved_ok system) (λ solution b of. of)))))) bound is
-
+-- A bound is at least the cycles of every path.
 pub chain_covers : (inputs : Setting) (name : List ℕ) (outcome : Outcome) → chain inputs name outcome → covers inputs name outcome
-chain_covers inputs name (Bound bound) is = chain_is_safe inputs name bound (chain_result inputs name bound is)
+chain_covers inputs name (Bound bound) is = chain_is_safe inputs name bound is
 chain_covers inputs name (RefusedBy fault) is = tt
 chain_covers inputs name NoMemory is = tt

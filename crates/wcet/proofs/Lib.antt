@@ -8,6 +8,6 @@ mod ServeAnswers
 mod ServingLemmas
 mod TallyLemmas
 pub mod ChainLemmas
-pub mod ChainOnce
 pub mod CostLemmas
 pub mod QuotientLemmas
+pub mod SolvingLemmas

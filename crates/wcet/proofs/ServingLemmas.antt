@@ -25,7 +25,8 @@ use Rattle.wcet.specs.declared.loading.Loaded.{Loaded}
 use Rattle.wcet.specs.Answers.{Shows}
 use Rattle.wcet.specs.Opening.{session_rows}
 use Rattle.wcet.specs.ServeCall.{IsEmptied}
-use Rattle.wcet.specs.Chained.{chain, covers}
+use Rattle.wcet.specs.Chained.{covers}
+use Rattle.wc_model.specs.Workspace.Chain.{chain}
 use Rattle.wcet.specs.Session.{IsRun, IsSessionOver, opening_of}
 use Rattle.wcet.proofs.ChainLemmas.{chain_covers}
 

@@ -30,7 +30,7 @@ use Rattle.wc_core.specs.Features.{Tells}
 use Rattle.wc_core.specs.Holds.{all_parts, bound_alone}
 use Rattle.wc_laws.proofs.AgreeingFeatureLemmas.{bounds_of, graphs, system_of}
 use Rattle.wc_laws.proofs.RelationLemmas.{Gives, after_gives}
-use Rattle.wcet.specs.Chained.{ResultOf, chain}
+use Rattle.wc_model.specs.Workspace.Chain.{ChainResult, chain}
 use Rattle.wcet.specs.Feature.{IsFeature, outcome_of}
 
 module _ (a b : Setting) (image : a.image ≡ b.image) (steer : AgreeOn a b Steer) (loops : AgreeOn a b Loops) (limits : AgreeOn a b Limits) (cache : AgreeOn a b CachePart) (cycles : AgreeOn a b CyclesPart) where
@@ -39,7 +39,7 @@ module _ (a b : Setting) (image : a.image ≡ b.image) (steer : AgreeOn a b Stee
       (is.0, subst (λ (c : _). AreCategories graph c is.0) cache is.1, is.2 ∙ ap (λ (c : Cycles). upper_costs graph is.0 c) cycles)
   costs_alike graph (Err fault) is = absurd is
 
-  results_alike : (name : List ℕ) → Gives (ResultOf a name) (ResultOf b name)
+  results_alike : (name : List ℕ) → Gives (ChainResult a name) (ChainResult b name)
   results_alike name =
       after_gives _ _ _ _ (graphs a b name image steer) (λ graph. after_gives _ _ _ _ (λ n of. of) (λ nest.
       after_gives _ _ _ _ (bounds_of a b name image steer loops graph nest) (λ bounds. after_gives _ _ _ _ (costs_alike graph) (λ costs.

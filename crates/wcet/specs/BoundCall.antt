@@ -8,7 +8,8 @@ use Rattle.wcet.specs.declared.answers.Answer.{Answer}
 use Rattle.wcet.specs.declared.answers.Answer.TheVariants as answer
 use Rattle.wcet.specs.declared.loading.Loaded.{Loaded}
 use Rattle.wcet.specs.Answers.{outcome_line, refusal}
-use Rattle.wcet.specs.Chained.{chain, covers, given}
+use Rattle.wcet.specs.Chained.{covers, given}
+use Rattle.wc_model.specs.Workspace.Chain.{chain}
 use Rattle.wcet.specs.Files.{IsTold, AreTold, AreInputs, IsFirstFault, paths_of}
 use Rattle.wcet.specs.Loading.{OpensAll, OpensSome, IsRefused, IsUnfinished, IsUnread}
 use Rattle.wcet.specs.Words.{Paths, IsBoundCall}

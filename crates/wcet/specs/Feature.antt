@@ -5,7 +5,7 @@ use Rattle.wc_model.specs.declared.values.Outcome.{Outcome}
 use Rattle.wc_model.specs.declared.values.Outcome.TheVariants as outcome
 use Rattle.wc_model.specs.Workspace.Edits.{Setting}
 use Rattle.wc_model.specs.Workspace.History.{bound_kind}
-use Rattle.wcet.specs.Chained.{chain}
+use Rattle.wc_model.specs.Workspace.Chain.{chain}
 
 -- the outcome that a bound tells, or the reason why there is none
 abbrev pub outcome_of : Result ℕ Fault → Outcome

@@ -5,9 +5,10 @@ pub mod Chained
 pub mod Feature
 pub mod Files
 pub mod Loading
+pub mod Opening
 pub mod ReportText
 pub mod ServeCall
 pub mod Session
+pub mod Solving
 pub mod Starts
-pub mod Opening
 pub mod Words

@@ -11,7 +11,8 @@ use Rattle.wc_model.specs.Workspace.History.{Chain, EachRight, IsLegal, opening_
 use Rattle.wc_model.specs.Workspace.States.{Opening}
 use Rattle.wc_session.specs.Served.{IsServed}
 use Rattle.wcet.specs.declared.loading.Loaded.{Loaded}
-use Rattle.wcet.specs.Chained.{chain, covers}
+use Rattle.wcet.specs.Chained.{covers}
+use Rattle.wc_model.specs.Workspace.Chain.{chain}
 use Rattle.wcet.specs.Files.{Holds, AreInputs, paths_of}
 use Rattle.wcet.specs.Loading.{OpensAll}
 use Rattle.wcet.specs.Words.{Paths}

@@ -1,7 +1,8 @@
 //! The analysis of one function, from its inputs alone, one phase after the other. After implicit path enumeration
 //! (Li and Malik 1995) over expanded calls (Sharir and Pnueli 1981), with the categories of Ferdinand and Wilhelm 1999.
 ghost use Rattle.std.specs.Prelude.{IfOk};
-ghost use Rattle.wcet.specs.Chained.{Chained, IsOnly, chain as chain_of, given};
+ghost use Rattle.wcet.specs.Chained.{Chained, IsOnly, given};
+ghost use Rattle.wc_model.specs.Workspace.Chain.{chain as chain_of};
 
 use crate::costs::costs_of;
 use crate::optimum::{bound_of, solution_of};

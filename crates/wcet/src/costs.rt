@@ -1,5 +1,5 @@
 ghost use Rattle.std.specs.Prelude.{IfOk};
-ghost use Rattle.wc_model.specs.Cache.Categories.{AreCategories};
+ghost use Rattle.wc_laws.specs.WithoutMay.{AreMustCategories};
 ghost use Rattle.wc_model.specs.Cache.Costs.{AreCosts};
 ghost use Rattle.wc_model.specs.Program.Graphs.{IsGraph};
 
@@ -9,7 +9,7 @@ use wc_category::categories;
 use wc_cost::costs;
 use wc_lines::lines;
 use wc_model::{Category, Costs, Graph, Hardware};
-use wc_mustmay::{may, must};
+use wc_mustmay::must;
 
 /// What each step of a graph costs at most on a hardware.
 pub fn costs_of<R: Threads + Sync>(
@@ -25,7 +25,7 @@ pub fn costs_of<R: Threads + Sync>(
     costs(alloc, graph, known.as_slice(), &hardware.cycles)
 }
 
-// What is known of the fetch at each node.
+// What is known of the fetch at each node. One that isn't surely a hit counts as a miss, so may isn't needed.
 fn known_categories<R: Threads + Sync>(
     rt: &R,
     alloc: Global,
@@ -33,12 +33,11 @@ fn known_categories<R: Threads + Sync>(
     hardware: &Hardware,
 ) -> Result<Vec<Category>, AllocError>
     requires { IsGraph graph.now }
-    ensures { IfOk result (λ v. AreCategories graph.now hardware.now.cache v.items) }
+    ensures { IfOk result (λ v. AreMustCategories graph.now hardware.now.cache v.items) }
 {
     let cache = hardware.cache.as_ref();
     let map = lines(alloc, graph, cache)?;
     let must = must(rt, alloc, graph, &map, cache)?;
-    let may = may(rt, alloc, graph, &map, cache)?;
     let nodes = graph.nodes.items().len() as u32;
-    categories(alloc, nodes, &must, &may)
+    categories(alloc, nodes, &must, &must)
 }

@@ -1,19 +1,21 @@
-ghost use Rattle.std.specs.Prelude.{◌<◌, ◌^◌, ◌<ℤ◌, ◌≤ℤ◌, ◌*ℤ◌, ◌+ℤ◌, pos};
+ghost use Rattle.std.specs.Prelude.{◌≡◌, ◌<◌, ◌^◌, ◌<ℤ◌, ◌≤ℤ◌, ◌*ℤ◌, ◌+ℤ◌, [], pos};
 ghost use Rattle.wc_model.specs.Flow.Ceiling.{ceiling_of};
 ghost use Rattle.wc_model.specs.Flow.Certificates.{IsBound, SolutionHolds};
 ghost use Rattle.wc_model.specs.Flow.Nest.{IsNest};
 ghost use Rattle.wc_model.specs.Flow.Systems.{IsSystem};
 ghost use Rattle.wc_model.specs.Program.Graphs.{IsGraph};
+ghost use Rattle.wc_model.specs.Workspace.Phases.{IsTooBig, SolutionOf};
 ghost use Rattle.wc_nestsolve.specs.Given.{IsSystemIn};
 ghost use Rattle.wc_system.specs.Answers.{Answers};
-ghost use Rattle.wcet.specs.Chained.{SolvedAs};
+ghost use Rattle.wcet.specs.Solving.{IsSolvable};
 
 use std::alloc::Global;
-use wc_base::{Fault, Trouble, UnbuiltWord};
+use wc_base::{Fault, Trouble};
 use wc_model::{Graph, Nest, Solution, System};
-use wc_nestsolve::solve;
+use wc_nestsolve::solve as solve_nest;
+use wc_simplex::{SolveFault, solve as solve_rows};
 
-/// The solution of a system: over the nest of its graph where no limits are stated, which aren't analysed yet.
+/// The solution of a system: over the nest of its graph, or by the row machine where limits are stated.
 pub fn solution_of(
     alloc: Global,
     graph: &Graph,
@@ -25,12 +27,27 @@ pub fn solution_of(
     requires system { IsSystemIn graph.now nest.now system.now }
     requires sound { IsSystem system.now }
     requires below { ceiling_of nest.now system.now < 2 ^ 100 }
-    ensures { Answers (SolvedAs system.now) result }
+    requires fits { IsTooBig system.now → ⊥ }
+    ensures { Answers (SolutionOf system.now) result }
 {
     if system.limits.items().is_empty() {
-        Ok(solve(alloc, graph, nest, system)?)
+        Ok(solve_nest(alloc, graph, nest, system)?)
     } else {
-        Err(Trouble::Fault(Fault::Unbuilt(UnbuiltWord::Facts)))
+        solve_limited(alloc, system)
+    }
+}
+
+fn solve_limited(alloc: Global, system: &System) -> Result<Solution, Trouble>
+    requires limited { system.now.limits ≡ [] → ⊥ }
+    requires solvable { IsSolvable system.now }
+    ensures { Answers (SolutionOf system.now) result }
+{
+    match solve_rows(alloc, system) {
+        Ok(solution) => Ok(solution),
+        Err(SolveFault::NumberLimit) => Err(Trouble::Fault(Fault::NumberLimit)),
+        Err(SolveFault::PivotLimit) => Err(Trouble::Fault(Fault::PivotLimit)),
+        Err(SolveFault::NoPath(_)) => Err(Trouble::Fault(Fault::NoPath)),
+        Err(SolveFault::Memory(error)) => Err(Trouble::Memory(error)),
     }
 }
 

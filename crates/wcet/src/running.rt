@@ -6,7 +6,7 @@ ghost use Rattle.wc_core.specs.Holds.{bound_alone};
 ghost use Rattle.wc_io.specs.Causes.{Rose};
 ghost use Rattle.wc_io.specs.Lines.{lines_of};
 ghost use Rattle.wc_model.specs.Workspace.History.{IsLegal, opening_entries};
-ghost use Rattle.wcet.specs.Chained.{chain};
+ghost use Rattle.wc_model.specs.Workspace.Chain.{chain};
 ghost use Rattle.wcet.specs.ReportText.{IsOfKinds};
 ghost use Rattle.wcet.specs.Session.{IsRun, opening_of};
 ghost use Rattle.wcet.specs.Starts.{all_starts, bound_runs};

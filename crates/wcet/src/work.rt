@@ -55,7 +55,7 @@ impl<'a, R: Threads + Sync> Work for ChainWork<'a, R> {
     ghost use Rattle.wc_core.specs.Holds.{bound_alone};
     ghost use Rattle.wc_model.specs.Workspace.History.{bound_kind as bound_kind_of};
     ghost use Rattle.wcet.specs.Agreeing.{stable_feature, feature_tells};
-    ghost use Rattle.wcet.specs.Chained.{chain as chain_of};
+    ghost use Rattle.wc_model.specs.Workspace.Chain.{chain as chain_of};
     ghost use Rattle.wcet.specs.Feature.{IsFeature, outcome_of as outcome_of_bound};
 
     ghost may_run = { λ _. IsSync R.row };

@@ -3,7 +3,8 @@ use Rattle.std.proofs.lemmas.Result.{IfOk-weaker}
 use Rattle.wc_model.specs.declared.flow_facts.Fact.{Fact}
 use Rattle.wc_model.specs.Workspace.Edits.{numbered}
 use Rattle.wcet.specs.BoundCall.{setting_in}
-use Rattle.wcet.specs.Chained.{chain, covers, given}
+use Rattle.wcet.specs.Chained.{covers, given}
+use Rattle.wc_model.specs.Workspace.Chain.{chain}
 use Rattle.wcet.proofs.ChainLemmas.{chain_covers}
 use Rattle.wcet.proofs.bound.outcome_of.Goals as goal
 

@@ -49,6 +49,10 @@ pub solution_of-requires-clause-below : goal.solution_of-requires-clause-below
 solution_of-requires-clause-below g c =
     (system_result (given c.args.image.now c.args.facts.now c.args.hardware.now) c.in_ok-graph.graph c.in_ok-nest.nest c.in_ok-bounds.bounds c.in_ok-costs.costs c.in_ok-system.system (c.in_ok-system.ensures.answer (given c.args.image.now c.args.facts.now c.args.hardware.now) refl)).below
 
+pub solution_of-requires-clause-fits : goal.solution_of-requires-clause-fits
+solution_of-requires-clause-fits g c =
+    (system_result (given c.args.image.now c.args.facts.now c.args.hardware.now) c.in_ok-graph.graph c.in_ok-nest.nest c.in_ok-bounds.bounds c.in_ok-costs.costs c.in_ok-system.system (c.in_ok-system.ensures.answer (given c.args.image.now c.args.facts.now c.args.hardware.now) refl)).fits_in
+
 pub returns-in_err-solution : goal.returns-in_err-solution
 returns-in_err-solution g c =
     passed_on (given c.args.image.now c.args.facts.now c.args.hardware.now) c.args.name.now c.from_residual-in_err-solution.result c.in_err-solution.field-0.0 c.from_residual-in_err-solution.ensures.1

@@ -1,0 +1,15 @@
+pub mod Choices
+pub mod Columns
+pub mod Counts
+pub mod Endings
+pub mod Finishes
+pub mod Halves
+pub mod Lines
+pub mod Machines
+pub mod Making
+pub mod Only
+pub mod Ordering
+pub mod Prices
+pub mod Reached
+pub mod Starts
+pub mod Steps
