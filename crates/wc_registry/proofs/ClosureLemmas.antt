@@ -121,12 +121,12 @@ same_is Limits = refl
 same_is Cache = refl
 same_is Cycles = refl
 
-part_there : (part : Part) (parts : List Part) → has_part part parts ≡ true → Contains parts part
+pub part_there : (part : Part) (parts : List Part) → has_part part parts ≡ true → Contains parts part
 part_there part parts has =
     let found : (other : Part) × Contains parts other × (same_part other part ≡ true) = any_at (λ other. same_part other part) parts has in
     subst (λ (p : Part). Contains parts p) (part_is found.0 part found.2) found.1
 
-there_part : (part : Part) (parts : List Part) → Contains parts part → has_part part parts ≡ true
+pub there_part : (part : Part) (parts : List Part) → Contains parts part → has_part part parts ≡ true
 there_part part parts there = any_from (λ other. same_part other part) parts part there (same_is part)
 
 -- the descriptions that are looked at are those of the kind and of what it requires
