@@ -3,9 +3,11 @@ use std::test::Fail;
 
 mod programs;
 mod rows;
+mod systems;
 
 use programs::outcome_of;
 use rows::rows;
+use systems::{flows, is_flow, system_of};
 
 #[test]
 fn each_program_has_its_bound_or_its_fault(rt: HostRuntime) -> Result<(), Fail> {
@@ -29,6 +31,18 @@ fn a_tableau_of_too_many_cells_is_refused(rt: HostRuntime) -> Result<(), Fail> {
     ] {
         let (_, wrote) = outcome_of(&rt, alloc, &code, facts, "")?;
         assert!(rt; wrote.as_slice() == text.as_bytes(), "{facts}");
+    }
+    Ok(())
+}
+
+#[test]
+fn each_program_has_its_flow_system(rt: HostRuntime) -> Result<(), Fail> {
+    let alloc = rt.alloc();
+    for flow in flows() {
+        let Ok(system) = system_of(&rt, alloc, &flow) else {
+            return Err(Fail::new(flow.name));
+        };
+        assert!(rt; is_flow(&system, &flow), "{}", flow.name);
     }
     Ok(())
 }

@@ -150,7 +150,7 @@ pub const UNKNOWN_WORD: [u32; 1] = [0xE7F0_00F0];
 pub const OUT_OF_TEXT: [u32; 1] = [0xEA00_0000];
 
 // An executable with the names `f` at 0x8000 and `g` at 0x802c.
-fn binary(alloc: Global, words: &[u32]) -> Result<Vec<u8>, AllocError> {
+pub fn binary(alloc: Global, words: &[u32]) -> Result<Vec<u8>, AllocError> {
     let mut names = Vec::new(alloc);
     names.push((Table::new(Vec::from_slice(alloc, b"f")?), 0x8000))?;
     names.push((Table::new(Vec::from_slice(alloc, b"g")?), 0x802C))?;
