@@ -57,16 +57,16 @@ stays_before own best less is = by (int_lt own best) refl is
     by true p e = absurd (cc)
     by false p e = grind (arith, ints)
 
-module _ (shape : Shape) (t : Tableau) (j : ℕ) where
-  same_or_before : (k i : ℕ) → k < i + 1 → (k < i) ⊎ (k ≡ i)
-  same_or_before k i within = by (nat_lt k i) refl
-    where
-      by : (b : Bool) → nat_lt k i ≡ b → (k < i) ⊎ (k ≡ i)
-      by true is = inl (grind (arith, nat_tests))
-      by false is =
-          let beyond : i ≤ k = grind (arith, nat_tests) in
-          inr (omega (arith, within, beyond))
+pub same_or_before : (k i : ℕ) → k < i + 1 → (k < i) ⊎ (k ≡ i)
+same_or_before k i within = by (nat_lt k i) refl
+  where
+    by : (b : Bool) → nat_lt k i ≡ b → (k < i) ⊎ (k ≡ i)
+    by true is = inl (grind (arith, nat_tests))
+    by false is =
+        let beyond : i ≤ k = grind (arith, nat_tests) in
+        inr (omega (arith, within, beyond))
 
+module _ (shape : Shape) (t : Tableau) (j : ℕ) where
   beaten_is : (i b : ℕ) (o : Bool) → beats shape t j i b ≡ Some o → ((o ≡ true) × ((cell t i shape.right *ℤ cell t b j) ≤ℤ (cell t b shape.right *ℤ cell t i j))) ⊎ ((o ≡ false) × ((cell t b shape.right *ℤ cell t i j) ≤ℤ (cell t i shape.right *ℤ cell t b j)))
   beaten_is i b o is = by (exact (cell t i shape.right *ℤ cell t b j)) refl (exact (cell t b shape.right *ℤ cell t i j)) refl is
     where

@@ -15,7 +15,6 @@ use Rattle.std.proofs.lemmas.Result.{IfOk-weaker}
 use mir.Syntax.{w128}
 use mir.Val.{SFits, of_z, to_z}
 use Rattle.wc_model.specs.declared.flow_system.System.{System}
-use Rattle.wc_model.specs.declared.flow_system.SystemLimit.{SystemLimit}
 use Rattle.wc_model.specs.declared.flow_system.SystemLoop.{SystemLoop}
 use Rattle.wc_model.specs.declared.flow_system.SystemStep.{SystemStep}
 use Rattle.wc_model.specs.Flow.Exact.{each_of, exact, negate_exact, sum_exact}
@@ -33,7 +32,6 @@ use Rattle.wc_simplex.specs.Inner.Counts.{AreColumnsAt, AreRowsOf, counted}
 use Rattle.wc_simplex.specs.Inner.Halves.{column_sum, row_half}
 use Rattle.wc_simplex.specs.Inner.Lines.{IsLine}
 use Rattle.wc_simplex.specs.Inner.Machines.{seen, shape_of}
-use Rattle.wc_simplex.specs.Inner.Making.{Adds, After, limits_from, made_before}
 use Rattle.wc_simplex.specs.Inner.Prices.{AreInner, AreInnerFor, AreKnown, ArePriced, IsChained, IsChainedFor, IsKnownAs, Learns, ahead_in, loops_and_limits}
 use Rattle.wc_simplex.specs.Inner.Steps.{behind}
 use Rattle.wc_simplex.proofs.ExactLemmas.{kept_is}
@@ -44,17 +42,6 @@ use Rattle.wc_simplex.proofs.StartLemmas.{each_length}
 
 some_none : {A : Type 0} (x : A) → Some x ≡ None → ⊥
 some_none x is = cc
-
--- A limit's row was added.
-pub limit_added : (s : System) (columns : List (List ℕ)) (slacks k : ℕ) (l d : SystemLimit) (made : Option Half) (o : Option (Unit {0})) (old new : List HalfRow) → k < length s.limits → get_or s.limits k d ≡ l
-    → made ≡ line_half s columns slacks (length s.loops + k) (limit_line l) → Adds made o old new
-    → After o (made_before old (halves s columns slacks (length s.loops + k) (limits_from s k))) (made_before new (halves s columns slacks (length s.loops + k + 1) (limits_from s (k + 1))))
-limit_added s columns slacks k l d made o old new within at is adds =
-    let first : limits_from s k ≡ limit_line l ∷ limits_from s (k + 1) = ap (map limit_line) (drop_more s.limits k d within) ∙ ap (λ m. limit_line m ∷ limits_from s (k + 1)) at in
-    let own : suc (length s.loops + k) ≡ length s.loops + k + 1 = omega arith in
-    subst (λ lines. After o (made_before old (halves s columns slacks (length s.loops + k) lines)) (made_before new (halves s columns slacks (length s.loops + k + 1) (limits_from s (k + 1))))) (sym first)
-    (subst (λ n. After o (made_before old (halves s columns slacks (length s.loops + k) (limit_line l ∷ limits_from s (k + 1)))) (made_before new (halves s columns slacks n (limits_from s (k + 1))))) own
-    (line_added s columns slacks (length s.loops + k) (limit_line l) (limits_from s (k + 1)) made o old new is adds))
 
 -- the nodes that a limit names
 pub named_small : (n : ℕ) (fs : List (ℕ × ℤ)) → All (λ p. p < n) (map (λ f. f.0) fs) → All (λ f. f.0 < n) fs

@@ -2,12 +2,12 @@
 use Rattle.std.proofs.Common.{◌≡◌, ℕ, zero, suc, ◌+◌, ◌<◌, ◌%◌, ℤ, pos, List, [], ◌∷◌, length, get_or, drop, refl, sym, ap, ◌∙◌, arith}
 use Rattle.std.specs.Int.{IsGcd}
 use Rattle.std.specs.Int.RustNames.{unsigned_abs}
-use Rattle.std.proofs.lemmas.Int.{to_z-of_z}
 use Rattle.std.proofs.lemmas.List.{at_drop_more}
 use mir.Syntax.{w128}
-use mir.Val.{SFits, of_z, to_z}
+use mir.Val.{SFits, of_z}
 use Rattle.std.proofs.lemmas.Nat.Gcd.{IsGcd-from_mod, IsGcd-from_zero, dvd_of_mod-eq-zero, dvd_refl, same_from_IsGcd}
 use Rattle.wc_model.specs.Flow.Exact.{gcd, gcd_within, row_gcd}
+use Rattle.wc_simplex.proofs.ExactLemmas.{of_zero}
 
 within_is : (n a b : ℕ) → b < n → IsGcd a b (gcd_within n a b)
 within_is zero a b few = absurd (omega arith)
@@ -39,9 +39,14 @@ row_gcd_one [] = refl
 row_gcd_one (x ∷ xs) = ap (λ g. row_gcd g xs) (gcd_one (unsigned_abs x)) ∙ row_gcd_one xs
 
 -- once it is 1
-pub found_one : (row : List ℤ) (i found size next : ℕ) → i < length row → SFits w128 (get_or row i (pos 0)) → row_gcd found (drop i row) ≡ row_gcd 0 row
-    → size ≡ unsigned_abs (to_z w128 (of_z w128 (get_or row i (pos 0)))) → next ≡ gcd found size → next ≡ 1 → 1 ≡ row_gcd 0 row
-found_one row i found size next within fits so_far is_size is_next one =
-    let abs : size ≡ unsigned_abs (get_or row i (pos 0)) = is_size ∙ ap unsigned_abs (to_z-of_z w128 (get_or row i (pos 0)) fits) in
-    let here : gcd found (unsigned_abs (get_or row i (pos 0))) ≡ 1 = ap (λ n. gcd found n) (sym abs) ∙ sym is_next ∙ one in
+pub found_one : (row : List ℤ) (i found next : ℕ) → i < length row → row_gcd found (drop i row) ≡ row_gcd 0 row → next ≡ gcd found (unsigned_abs (get_or row i (pos 0))) → next ≡ 1 → 1 ≡ row_gcd 0 row
+found_one row i found next within so_far is_next one =
+    let here : gcd found (unsigned_abs (get_or row i (pos 0))) ≡ 1 = sym is_next ∙ one in
     sym (row_gcd_one (drop (i + 1) row)) ∙ sym (ap (λ g. row_gcd g (drop (i + 1) row)) here) ∙ sym (at_drop_more (row_gcd found) row i (pos 0) within) ∙ so_far
+
+gcd_none : (g : ℕ) → g ≡ gcd g 0
+unfolding gcd
+gcd_none g = refl
+
+pub gcd_kept : (g : ℕ) (x : ℤ) → SFits w128 x → of_z w128 x ≡ 0 → g ≡ gcd g (unsigned_abs x)
+gcd_kept g x fits none = gcd_none g ∙ sym (ap (λ z. gcd g (unsigned_abs z)) (of_zero x fits none))

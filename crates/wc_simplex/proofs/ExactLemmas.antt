@@ -1,6 +1,7 @@
 -- Numbers that stay in the range.
 use Rattle.std.proofs.Common.{◌≡◌, ℕ, ◌+◌, ◌<◌, ◌≤◌, ◌^◌, ◌-◌, ℤ, pos, negsuc, ◌*ℤ◌, ◌-ℤ◌, ◌≤ℤ◌, Bool, true, false, Option, None, Some, option_and_then, refl, sym, ap, ap₂, subst, ◌∙◌, arith}
-use Rattle.std.specs.Int.RustNames.{unsigned_abs}
+use Rattle.std.specs.Int.RustNames.{int_div, unsigned_abs}
+use Rattle.std.proofs.Math.Nat.{zero-div}
 use Rattle.std.specs.Option.{SomeIff}
 use Rattle.std.proofs.Math.IntN.{*ℤ-zero}
 use Rattle.std.proofs.lemmas.Bool.Decides.{nat_tests}
@@ -56,13 +57,30 @@ kept_is z v is =
     small (pos n) is = grind (arith, nat_tests)
     small (negsuc n) is = grind (arith, nat_tests)
 
-pub mix_zero : (a b : ℤ) → mix a b (pos 0) (pos 0) ≡ Some (pos 0)
+exact_none : (a : ℤ) → exact (a *ℤ pos 0) ≡ Some (pos 0)
 unfolding exact
-mix_zero a b = rw (*ℤ-zero a, *ℤ-zero b) refl
+exact_none a = rw (*ℤ-zero a) refl
 
 pub of_zero : (z : ℤ) → SFits w128 z → of_z w128 z ≡ 0 → z ≡ pos 0
 of_zero (pos n) fits is = ap pos is
 of_zero (negsuc n) fits is = let small = fits.sfits in absurd (omega (arith, is, small))
 
-pub mix_zeros : (a b x y : ℤ) → SFits w128 x → SFits w128 y → of_z w128 x ≡ 0 → of_z w128 y ≡ 0 → Some (pos 0) ≡ mix a b x y
-mix_zeros a b x y fits_x fits_y no_x no_y = sym (ap₂ (λ m n. mix a b m n) (of_zero x fits_x no_x) (of_zero y fits_y no_y) ∙ mix_zero a b)
+pub no_product : (a x : ℤ) → SFits w128 x → of_z w128 x ≡ 0 → Some (pos 0) ≡ exact (a *ℤ x)
+no_product a x fits none = sym (ap (λ z. exact (a *ℤ z)) (of_zero x fits none) ∙ exact_none a)
+
+-- a number that was kept is kept again
+kept_again : (z v : ℤ) → exact z ≡ Some v → exact (v -ℤ pos 0) ≡ Some v
+kept_again z v is =
+    let same : v -ℤ pos 0 ≡ z = omega (arith, ints, (kept_is z v is).0) in
+    ap exact same ∙ is
+
+-- where nothing is taken away
+pub mix_left : (a b x y : ℤ) → SFits w128 y → of_z w128 y ≡ 0 → exact (a *ℤ x) ≡ mix a b x y
+mix_left a b x y fits none = sym (ap (mix a b x) (of_zero y fits none) ∙ by (exact (a *ℤ x)) refl)
+  where
+    by : (o : Option ℤ) → exact (a *ℤ x) ≡ o → option_and_then (λ left. option_and_then (λ right. exact (left -ℤ right)) (exact (b *ℤ pos 0))) o ≡ o
+    by None is = refl
+    by (Some v) is = ap (option_and_then (λ right. exact (v -ℤ right))) (exact_none b) ∙ kept_again (a *ℤ x) v is
+
+pub no_quotient : (x : ℤ) (by : ℕ) → SFits w128 x → of_z w128 x ≡ 0 → pos 0 ≡ int_div x (pos by)
+no_quotient x by fits none = sym (ap (λ z. int_div z (pos by)) (of_zero x fits none) ∙ ap pos (zero-div by))

@@ -1,5 +1,6 @@
 pub mod BasisLemmas
 pub mod BeginLemmas
+pub mod CellLemmas
 pub mod CertifyLemmas
 pub mod ChainLemmas
 pub mod ChoosingLemmas
@@ -8,6 +9,7 @@ pub mod ColumnLemmas
 pub mod CountingLemmas
 pub mod DivisorLemmas
 pub mod DriveLemmas
+pub mod EndEntryLemmas
 pub mod EndLemmas
 pub mod EndingLaws
 pub mod ExactLemmas
@@ -26,6 +28,7 @@ pub mod OrderLemmas
 pub mod PartitionLemmas
 pub mod PhaseLemmas
 pub mod PivotLemmas
+pub mod PricedLemmas
 pub mod ReachLemmas
 pub mod ReadingLemmas
 pub mod RowLemmas
@@ -33,7 +36,9 @@ pub mod RunLemmas
 pub mod ShownLemmas
 pub mod SolutionLemmas
 pub mod StartLemmas
+pub mod StartingLemmas
 pub mod StepLemmas
 pub mod TurningLemmas
+pub mod TwoLoopLemmas
 pub mod WeighLemmas
 pub mod WholeLemmas

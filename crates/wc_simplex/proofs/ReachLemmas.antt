@@ -11,7 +11,7 @@ use Rattle.wc_model.specs.Flow.Exact.{each_of, negate_exact}
 use Rattle.wc_model.specs.Flow.RowMachine.{Choice, Ending, Shape, Tableau, after_choice, after_pivot, cell, choice, driven, driven_at, entering, entry, finished, goal_row, is_negative, is_real, is_zero, no_row, number_limit, phase, pivot_limit, pivoted, pivots, place_from, reached, too_wide, turned, unbounded, with_row}
 use Rattle.wc_simplex.specs.Inner.Reached.{AreAbove, Follows, HaveWidth, IsAbove, IsBasic, IsLeast, IsLeftOut, IsLinear, IsReached}
 use Rattle.wc_simplex.specs.Solutions.{AllZero}
-use Rattle.wc_simplex.proofs.ChoosingLemmas.{IsFlat, IsPivotOf, chosen_flat, chosen_none, chosen_pivot, negative_below, not_negative}
+use Rattle.wc_simplex.proofs.ChoosingLemmas.{IsFlat, IsPivotOf, chosen_flat, chosen_none, chosen_pivot, negative_below, not_negative, same_or_before}
 use Rattle.wc_simplex.proofs.FunctionalLemmas.{entry_linear}
 use Rattle.wc_simplex.proofs.PivotLemmas.{basis_other, basis_same, other, pivot_above, pivot_basic, pivot_follows, same_count, stays, zero_each}
 use Rattle.wc_simplex.proofs.SolutionLemmas.{zero_at}
@@ -213,15 +213,6 @@ pub record IsDriven (shape : Shape) (start : Tableau) (i : ℕ) (t : Tableau) : 
   pub none : (k : ℕ) → k < length t.rows → shape.real ≤ get_or t.basis k 0 → cell t k shape.right ≡ pos 0
   pub out : (k : ℕ) → k < i → k < length t.rows → shape.real ≤ get_or t.basis k 0 → (m : ℕ) → m < shape.real → cell t k m ≡ pos 0
 
-same_or_before : (k i : ℕ) → k < i + 1 → (k < i) ⊎ (k ≡ i)
-same_or_before k i within = by (nat_lt k i) refl
-  where
-    by : (b : Bool) → nat_lt k i ≡ b → (k < i) ⊎ (k ≡ i)
-    by true is = inl (grind (arith, nat_tests))
-    by false is =
-        let beyond : i ≤ k = grind (arith, nat_tests) in
-        inr (omega (arith, within, beyond))
-
 none_zero : (i : ℕ) (xs : List ℤ) (m : ℕ) → place_from (λ x. not (is_zero x)) i xs ≡ None → get_or xs m (pos 0) ≡ pos 0
 none_zero i [] m is = refl
 none_zero i (x ∷ xs) m is = by x refl is m (λ n e. none_zero (i + 1) xs n e)
@@ -247,8 +238,8 @@ module _ (shape : Shape) (start : Tableau) (few : shape.real ≤ shape.right) wh
   DrivenEnd pivot_limit = Unit {0}
   DrivenEnd unbounded = ⊥
 
-  real_passes : (i : ℕ) (t : Tableau) → get_or t.basis i 0 < shape.real → IsDriven shape start i t → IsDriven shape start (i + 1) t
-  real_passes i t real here =
+  passes : (i : ℕ) (t : Tableau) → (shape.real ≤ get_or t.basis i 0 → (m : ℕ) → m < shape.real → cell t i m ≡ pos 0) → IsDriven shape start i t → IsDriven shape start (i + 1) t
+  passes i t none here =
       record {
         reached_is = here.reached_is;
         none = here.none;
@@ -257,20 +248,13 @@ module _ (shape : Shape) (start : Tableau) (few : shape.real ≤ shape.right) wh
     where
       by : (k : ℕ) → k < length t.rows → shape.real ≤ get_or t.basis k 0 → (m : ℕ) → m < shape.real → (k < i) ⊎ (k ≡ i) → cell t k m ≡ pos 0
       by k within far m in_real (inl earlier) = here.out k earlier within far m in_real
-      by k within far m in_real (inr same) = absurd (omega (arith, real, far, ap (λ n. get_or t.basis n 0) same))
+      by k within far m in_real (inr same) = ap (λ n. cell t n m) same ∙ none (subst (λ n. shape.real ≤ get_or t.basis n 0) same far) m in_real
+
+  real_passes : (i : ℕ) (t : Tableau) → get_or t.basis i 0 < shape.real → IsDriven shape start i t → IsDriven shape start (i + 1) t
+  real_passes i t real here = passes i t (λ far m in_real. absurd (omega (arith, real, far))) here
 
   zero_passes : (i : ℕ) (t : Tableau) → place_from (λ x. not (is_zero x)) 0 (take shape.real (get_or t.rows i [])) ≡ None → IsDriven shape start i t → IsDriven shape start (i + 1) t
-  zero_passes i t is here =
-      record {
-        reached_is = here.reached_is;
-        none = here.none;
-        out = λ k before within far m in_real. by k within far m in_real (same_or_before k i before);
-      }
-    where
-      by : (k : ℕ) → k < length t.rows → shape.real ≤ get_or t.basis k 0 → (m : ℕ) → m < shape.real → (k < i) ⊎ (k ≡ i) → cell t k m ≡ pos 0
-      by k within far m in_real (inl earlier) = here.out k earlier within far m in_real
-      by k within far m in_real (inr same) =
-          ap (λ n. cell t n m) same ∙ sym (get_or-take shape.real (get_or t.rows i []) m (pos 0) in_real) ∙ none_zero 0 (take shape.real (get_or t.rows i [])) m is
+  zero_passes i t is here = passes i t (λ far m in_real. sym (get_or-take shape.real (get_or t.rows i []) m (pos 0) in_real) ∙ none_zero 0 (take shape.real (get_or t.rows i [])) m is) here
 
   -- the row is turned, and the column takes its basis
   pivot_passes : (i j : ℕ) (t mid u : Tableau) → i < length t.rows → shape.real ≤ get_or t.basis i 0 → j < shape.real → not (is_zero (cell t i j)) ≡ true

@@ -14,6 +14,7 @@ use Rattle.wc_model.specs.Flow.Places.{number_at}
 use Rattle.wc_model.specs.Flow.RowMachine.{entry}
 use Rattle.wc_model.specs.Flow.RowResults.{RowPrices, numbered, price_ahead, price_of, prices_from, signed, split_prices}
 use Rattle.wc_model.specs.Flow.Tableaus.{Half, Line, Start, count_slacks, limit_line, lines_of, loop_line, node_line, step_entry}
+use Rattle.wc_simplex.proofs.CellLemmas.{lines_count}
 use Rattle.wc_simplex.proofs.BeginLemmas.{IsStartOf, no_half}
 use Rattle.wc_simplex.proofs.ChainLemmas.{step_at}
 use Rattle.wc_simplex.proofs.ExactLemmas.{kept_is}
@@ -161,19 +162,8 @@ module _ (s : System) (columns : List (List ℕ)) (start : Start) (of : IsStartO
   negated_count : length start.negated ≡ length of.hs
   negated_count = ap length of.negated ∙ length-map of.hs (λ h. h.negated)
 
-  lines_count : length (lines_of s) ≡ length (row_nodes s) + length s.loops + length s.limits
-  lines_count =
-      omega (
-        arith,
-        length-append (map (node_line s) (row_nodes s) ++ map (loop_line s) s.loops) (map limit_line s.limits),
-        length-append (map (node_line s) (row_nodes s)) (map (loop_line s) s.loops),
-        length-map (row_nodes s) (node_line s),
-        length-map s.loops (loop_line s),
-        length-map s.limits limit_line,
-      )
-
   all_count : length all ≡ length (row_nodes s) + length s.loops + length s.limits
-  all_count = are.0 ∙ negated_count ∙ halves_count s columns (count_slacks (lines_of s)) 0 (lines_of s) of.hs of.halves_is ∙ lines_count
+  all_count = are.0 ∙ negated_count ∙ halves_count s columns (count_slacks (lines_of s)) 0 (lines_of s) of.hs of.halves_is ∙ lines_count s
 
   turned : AreTurned (λ k. entry goal (start.shape.real + k) -ℤ base) (λ k. get_or all k (pos 0)) 0 of.hs
   turned i within =

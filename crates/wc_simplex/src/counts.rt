@@ -82,7 +82,7 @@ impl Machine {
     }
 
     // The least common multiple of the denominators, row by row.
-    fn denominator(&self) -> Option<u128>
+    pub fn denominator(&self) -> Option<u128>
         requires regular { IsRegular self.now }
         requires readable { IsReadable (shape_of self.now) (seen self.now) }
         ensures common { option_map pos result ≡ common_from (shape_of self.now) (seen self.now) 0 (pos 1) self.now.basis.items }

@@ -3,15 +3,15 @@ ghost use Rattle.std.specs.Option.{option_and_then, option_map};
 ghost use Rattle.wc_model.specs.Flow.Exact.{each_of, negate_exact};
 ghost use Rattle.wc_model.specs.Flow.Tableaus.{half, half_of, slack_entries, unit_row};
 ghost use Rattle.wc_simplex.specs.Inner.Columns.{IsColumn};
-ghost use Rattle.wc_simplex.specs.Inner.Halves.{column_sum, half_as, row_half};
+ghost use Rattle.wc_simplex.specs.Inner.Halves.{column_sum, half_as, node_half, row_half};
 
 use crate::half::HalfRow;
-use crate::lines::one_if;
+use crate::lines::{node_columns, one_if};
 use crate::numbers::{is_below_zero, negated, sum};
 use crate::rows::negate_entries;
 use crate::stated::StatedRow;
 use std::alloc::{AllocError, Global};
-use wc_model::Table;
+use wc_model::{System, Table};
 
 // The sum of the entries at a column's steps, along the walk.
 fn column_entry(entries: &[i128], column: &[usize]) -> Option<i128>
@@ -123,4 +123,24 @@ pub fn make_half(
             Ok(half_row(real, row.side))
         }
     }
+}
+
+/// The row of a node before its artificial column: out less in is 1 at the start, and 0 elsewhere.
+pub fn node_half(
+    alloc: Global,
+    system: &System,
+    columns: &[Table<usize>],
+    slacks: usize,
+    node: u32,
+) -> Result<HalfRow, AllocError>
+    requires columns { All (IsColumn (length system.now.steps)) columns.now }
+    ensures { IfOk result (λ h. half_as h ≡ node_half system.now columns.now slacks node) }
+{
+    let mut real = node_columns(alloc, system.steps.items(), columns, node)?;
+    push_zeros(&mut real, slacks)?;
+    Ok(HalfRow {
+        real,
+        side: one_if(node == system.start),
+        negated: false,
+    })
 }

@@ -33,3 +33,6 @@ mod tableau;
 
 pub use fault::SolveFault;
 pub use solving::solve;
+
+#[cfg(test)]
+mod tests;

@@ -1,12 +1,13 @@
-ghost use Rattle.std.specs.Prelude.{◌≡◌, ◌<◌, ◌≤ℤ◌, ◌-ℤ◌, ◌==◌, All, IfOk, if◌then◌else◌, length, map, pos, get_or, false};
+ghost use Rattle.std.specs.Prelude.{◌≡◌, ◌<◌, ◌≤ℤ◌, All, IfOk, if◌then◌else◌, length, map, pos, get_or, false};
 ghost use Rattle.std.specs.List.{range_with_len};
 ghost use Rattle.wc_model.specs.Flow.Systems.{IsSystem, leads_to};
-ghost use Rattle.wc_model.specs.Flow.Tableaus.{limit_line, loop_line, node_line, one_if};
+ghost use Rattle.wc_model.specs.Flow.Tableaus.{limit_line, loop_line, one_if};
+ghost use Rattle.wc_simplex.specs.Inner.Columns.{IsColumn, node_ends};
 ghost use Rattle.wc_simplex.specs.Inner.Lines.{AreFactors, AreMarks, IsLine, loop_entry};
 
 use crate::stated::StatedRow;
 use std::alloc::{AllocError, Global};
-use wc_model::{System, SystemLimit, SystemLoop, SystemStep};
+use wc_model::{System, SystemLimit, SystemLoop, SystemStep, Table};
 
 pub fn one_if(test: bool) -> i128
     ensures value { result ≡ one_if test }
@@ -25,31 +26,31 @@ fn leads_to(target: Option<u32>, node: u32) -> bool
     }
 }
 
-fn node_entry(step: &SystemStep, node: u32) -> i128
-    ensures { result ≡ one_if (step.now.source == node) -ℤ one_if (leads_to step.now.target node) }
+// 1 where a column begins at a node, less 1 where it leads to it.
+fn node_ends(steps: &[SystemStep], node: u32, column: &[usize]) -> i128
+    requires { IsColumn (length steps.now) column.now }
+    ensures { result ≡ node_ends steps.now node column.now }
 {
-    one_if(step.source == node) - one_if(leads_to(step.target, node))
+    let first = &steps[column[0]];
+    let last = &steps[column[column.len() - 1]];
+    one_if(first.source == node) - one_if(leads_to(last.target, node))
 }
 
-fn node_entries(alloc: Global, steps: &[SystemStep], node: u32) -> Result<Vec<i128>, AllocError>
-    ensures { IfOk result (λ v. v.items ≡ map (λ t. one_if (t.source == node) -ℤ one_if (leads_to t.target node)) steps.now) }
+/// Out less in, by columns between nodes that have rows.
+pub fn node_columns(
+    alloc: Global,
+    steps: &[SystemStep],
+    columns: &[Table<usize>],
+    node: u32,
+) -> Result<Vec<i128>, AllocError>
+    requires { All (IsColumn (length steps.now)) columns.now }
+    ensures { IfOk result (λ v. v.items ≡ map (node_ends steps.now node) columns.now) }
 {
-    steps
-        .iter()
-        .map(|step| node_entry(step, node))
-        .collect(alloc)
-}
-
-/// Out less in is 1 at the start, and 0 elsewhere.
-pub fn node_row(alloc: Global, system: &System, node: u32) -> Result<StatedRow, AllocError>
-    ensures { IfOk result (IsLine system.now (node_line system.now node)) }
-{
-    let entries = node_entries(alloc, system.steps.items(), node)?;
-    Ok(StatedRow {
-        entries,
-        side: one_if(node == system.start),
-        slack: false,
-    })
+    let mut entries = Vec::with_capacity(alloc, columns.len())?;
+    for column in columns {
+        entries.push(node_ends(steps, node, column.items()))?;
+    }
+    Ok(entries)
 }
 
 // Which places are listed.

@@ -1,14 +1,15 @@
-ghost use Rattle.std.specs.Prelude.{◌≡◌, ◌<◌, ◌+◌, ◌++◌, [], All, IfOk, List, Some, length, map};
+ghost use Rattle.std.specs.Prelude.{◌≡◌, ◌<◌, ◌+◌, ◌++◌, ◌∷◌, [], All, IfOk, length, map};
 ghost use Rattle.std.specs.Option.{option_map};
+ghost use Rattle.wc_model.specs.Flow.Cells.{columns_of};
 ghost use Rattle.wc_model.specs.Flow.Systems.{IsSystem};
-ghost use Rattle.wc_model.specs.Flow.Tableaus.{Line, halves, lines_of};
+ghost use Rattle.wc_model.specs.Flow.Tableaus.{halves, lines_of};
 ghost use Rattle.wc_simplex.specs.Inner.Columns.{ArePassed, IsColumn};
 ghost use Rattle.wc_simplex.specs.Inner.Halves.{half_as, row_half};
-ghost use Rattle.wc_simplex.specs.Inner.Making.{Adds, After, limits_from, loops_from, made_before, node_lines, nodes_from};
+ghost use Rattle.wc_simplex.specs.Inner.Making.{Adds, AddsInequalities, AddsInequality, AddsNode, AddsNodes, IsInequalityAt, IsLimitAt, IsLoopAt};
 
 use crate::half::HalfRow;
-use crate::halves::make_half;
-use crate::lines::{limit_row, loop_row, node_row};
+use crate::halves::{make_half, node_half};
+use crate::lines::{limit_row, loop_row};
 use crate::ordering::is_passed;
 use crate::stated::StatedRow;
 use std::alloc::{AllocError, Global};
@@ -34,6 +35,13 @@ fn add_row(
     }
 }
 
+fn add_half(made: &mut Vec<HalfRow>, half: HalfRow) -> Result<(), AllocError>
+    ensures { IfOk result (λ _. map half_as made.new.items ≡ map half_as made.old.items ++ half_as half ∷ []) }
+{
+    made.push(half)?;
+    Ok(())
+}
+
 // The row of a node that isn't passed through.
 fn add_node(
     alloc: Global,
@@ -47,13 +55,15 @@ fn add_node(
     requires passed { ArePassed system.now passed.now }
     requires node { node < system.now.nodes }
     requires columns { All (IsColumn (length system.now.steps)) columns.now }
-    ensures { IfOk result (λ o. (ls : List Line) → After o (made_before made.old.items (halves system.now columns.now slacks 0 (node_lines system.now node ++ ls))) (made_before made.new.items (halves system.now columns.now slacks 0 ls))) }
+    requires ordered { columns.now ≡ columns_of system.now }
+    ensures { IfOk result (AddsNode system.now columns.now slacks node made.old.items made.new.items) }
 {
     if is_passed(system, passed, node) {
         return Ok(Some(()));
     }
-    let row = node_row(alloc, system, node)?;
-    add_row(alloc, columns, slacks, 0, &row, made)
+    let half = node_half(alloc, system, columns, slacks, node)?;
+    add_half(made, half)?;
+    Ok(Some(()))
 }
 
 // The rows of the nodes that aren't passed through.
@@ -67,7 +77,8 @@ fn add_nodes(
 ) -> Result<Option<()>, AllocError>
     requires passed { ArePassed system.now passed.now }
     requires columns { All (IsColumn (length system.now.steps)) columns.now }
-    ensures { IfOk result (λ o. (ls : List Line) → After o (made_before made.old.items (halves system.now columns.now slacks 0 (nodes_from system.now 0 ++ ls))) (made_before made.new.items (halves system.now columns.now slacks 0 ls))) }
+    requires ordered { columns.now ≡ columns_of system.now }
+    ensures { IfOk result (AddsNodes system.now columns.now slacks made.old.items made.new.items) }
 {
     for node in 0..system.nodes {
         match add_node(alloc, system, columns, passed, slacks, node, made)? {
@@ -78,7 +89,37 @@ fn add_nodes(
     Ok(Some(()))
 }
 
-fn add_loop(
+fn loop_at(alloc: Global, system: &System, place: usize) -> Result<StatedRow, AllocError>
+    requires system { IsSystem system.now }
+    requires place { place < length system.now.loops }
+    ensures { IfOk result (IsLoopAt system.now place) }
+{
+    loop_row(alloc, system, &system.loops.items()[place])
+}
+
+fn limit_at(alloc: Global, system: &System, place: usize) -> Result<StatedRow, AllocError>
+    requires system { IsSystem system.now }
+    requires place { place < length system.now.limits }
+    ensures { IfOk result (IsLimitAt system.now place) }
+{
+    limit_row(alloc, system, &system.limits.items()[place])
+}
+
+// The row of a loop or, behind the loops, of a limit.
+fn inequality_at(alloc: Global, system: &System, place: usize) -> Result<StatedRow, AllocError>
+    requires system { IsSystem system.now }
+    requires place { place < length system.now.loops + length system.now.limits }
+    ensures { IfOk result (IsInequalityAt system.now place) }
+{
+    let loops = system.loops.items().len();
+    if place < loops {
+        loop_at(alloc, system, place)
+    } else {
+        limit_at(alloc, system, place - loops)
+    }
+}
+
+fn add_inequality(
     alloc: Global,
     system: &System,
     columns: &[Table<usize>],
@@ -87,15 +128,16 @@ fn add_loop(
     made: &mut Vec<HalfRow>,
 ) -> Result<Option<()>, AllocError>
     requires system { IsSystem system.now }
-    requires place { place < length system.now.loops }
+    requires place { place < length system.now.loops + length system.now.limits }
     requires columns { All (IsColumn (length system.now.steps)) columns.now }
-    ensures { IfOk result (λ o. (ls : List Line) → After o (made_before made.old.items (halves system.now columns.now slacks place (loops_from system.now place ++ ls))) (made_before made.new.items (halves system.now columns.now slacks (place + 1) (loops_from system.now (place + 1) ++ ls)))) }
+    ensures { IfOk result (AddsInequality system.now columns.now slacks place made.old.items made.new.items) }
 {
-    let row = loop_row(alloc, system, &system.loops.items()[place])?;
+    let row = inequality_at(alloc, system, place)?;
     add_row(alloc, columns, slacks, place, &row, made)
 }
 
-fn add_loops(
+// The rows of the loops and of the limits, each with its slack.
+fn add_inequalities(
     alloc: Global,
     system: &System,
     columns: &[Table<usize>],
@@ -103,49 +145,12 @@ fn add_loops(
     made: &mut Vec<HalfRow>,
 ) -> Result<Option<()>, AllocError>
     requires system { IsSystem system.now }
+    requires slacks { slacks ≡ length system.now.loops + length system.now.limits }
     requires columns { All (IsColumn (length system.now.steps)) columns.now }
-    ensures { IfOk result (λ o. (ls : List Line) → After o (made_before made.old.items (halves system.now columns.now slacks 0 (loops_from system.now 0 ++ ls))) (made_before made.new.items (halves system.now columns.now slacks (length system.now.loops) ls))) }
+    ensures { IfOk result (AddsInequalities system.now columns.now slacks made.old.items made.new.items) }
 {
-    for place in 0..system.loops.items().len() {
-        match add_loop(alloc, system, columns, slacks, place, made)? {
-            None => return Ok(None),
-            Some(()) => {}
-        }
-    }
-    Ok(Some(()))
-}
-
-fn add_limit(
-    alloc: Global,
-    system: &System,
-    columns: &[Table<usize>],
-    slacks: usize,
-    place: usize,
-    made: &mut Vec<HalfRow>,
-) -> Result<Option<()>, AllocError>
-    requires system { IsSystem system.now }
-    requires place { place < length system.now.limits }
-    requires columns { All (IsColumn (length system.now.steps)) columns.now }
-    ensures { IfOk result (λ o. After o (made_before made.old.items (halves system.now columns.now slacks (length system.now.loops + place) (limits_from system.now place))) (made_before made.new.items (halves system.now columns.now slacks (length system.now.loops + place + 1) (limits_from system.now (place + 1))))) }
-{
-    let row = limit_row(alloc, system, &system.limits.items()[place])?;
-    let own = system.loops.items().len() + place;
-    add_row(alloc, columns, slacks, own, &row, made)
-}
-
-fn add_limits(
-    alloc: Global,
-    system: &System,
-    columns: &[Table<usize>],
-    slacks: usize,
-    made: &mut Vec<HalfRow>,
-) -> Result<Option<()>, AllocError>
-    requires system { IsSystem system.now }
-    requires columns { All (IsColumn (length system.now.steps)) columns.now }
-    ensures { IfOk result (λ o. After o (made_before made.old.items (halves system.now columns.now slacks (length system.now.loops) (limits_from system.now 0))) (made_before made.new.items (Some []))) }
-{
-    for place in 0..system.limits.items().len() {
-        match add_limit(alloc, system, columns, slacks, place, made)? {
+    for place in 0..slacks {
+        match add_inequality(alloc, system, columns, slacks, place, made)? {
             None => return Ok(None),
             Some(()) => {}
         }
@@ -162,19 +167,18 @@ pub fn make_halves(
     slacks: usize,
 ) -> Result<Option<Vec<HalfRow>>, AllocError>
     requires system { IsSystem system.now }
+    requires slacks { slacks ≡ length system.now.loops + length system.now.limits }
     requires passed { ArePassed system.now passed.now }
     requires columns { All (IsColumn (length system.now.steps)) columns.now }
+    requires ordered { columns.now ≡ columns_of system.now }
     ensures { IfOk result (λ o. option_map (λ v. map half_as v.items) o ≡ halves system.now columns.now slacks 0 (lines_of system.now)) }
 {
     let mut made = Vec::new(alloc);
     match add_nodes(alloc, system, columns, passed, slacks, &mut made)? {
         None => Ok(None),
-        Some(()) => match add_loops(alloc, system, columns, slacks, &mut made)? {
+        Some(()) => match add_inequalities(alloc, system, columns, slacks, &mut made)? {
             None => Ok(None),
-            Some(()) => match add_limits(alloc, system, columns, slacks, &mut made)? {
-                None => Ok(None),
-                Some(()) => Ok(Some(made)),
-            },
+            Some(()) => Ok(Some(made)),
         },
     }
 }

@@ -1,4 +1,4 @@
-ghost use Rattle.std.specs.Prelude.{◌≡◌, ◌<◌, ◌^◌, ◌-ℤ◌, ◌*ℤ◌, not, pos, int_div};
+ghost use Rattle.std.specs.Prelude.{◌≡◌, ◌<◌, ◌^◌, ◌-ℤ◌, ◌*ℤ◌, not, pos, int_div, unsigned_abs};
 ghost use Rattle.wc_model.specs.Flow.Exact.{add_exact, exact, gcd, mix, negate_exact};
 ghost use Rattle.wc_model.specs.Flow.RowMachine.{is_negative, is_positive, is_zero};
 
@@ -9,6 +9,9 @@ use wc_base::{add, mul, sub};
 pub fn product(a: &i128, b: &i128) -> Option<i128>
     ensures { result ≡ exact (a.now *ℤ b.now) }
 {
+    if *b == 0 {
+        return Some(0);
+    }
     mul(*a, *b)
 }
 
@@ -30,12 +33,12 @@ pub fn negated(a: &i128) -> Option<i128>
     sub(0, *a)
 }
 
-/// a times x less b times y.
+/// a times x less b times y, of which most are 0.
 pub fn mixed(a: &i128, b: &i128, x: &i128, y: &i128) -> Option<i128>
     ensures { result ≡ mix a.now b.now x.now y.now }
 {
-    if *x == 0 && *y == 0 {
-        return Some(0);
+    if *y == 0 {
+        return product(a, x);
     }
     let left = product(a, x)?;
     let right = product(b, y)?;
@@ -48,11 +51,24 @@ pub fn common_divisor(a: u128, b: u128) -> u128
     wc_base::gcd(a, b)
 }
 
+/// The common divisor so far with an entry.
+pub fn divisor_with(found: u128, entry: &i128) -> u128
+    ensures { result ≡ gcd found (unsigned_abs entry.now) }
+{
+    if *entry == 0 {
+        return found;
+    }
+    common_divisor(found, entry.unsigned_abs())
+}
+
 pub fn quotient(entry: &i128, by: u128) -> i128
     requires some { 0 < by }
     requires small { by < 2 ^ 127 }
     ensures { result ≡ int_div entry.now (pos by) }
 {
+    if *entry == 0 {
+        return 0;
+    }
     *entry / by as i128
 }
 

@@ -3,7 +3,7 @@ ghost use Rattle.wc_model.specs.Flow.Exact.{each_of, lowest, mix_row, negate_exa
 ghost use Rattle.wc_model.specs.Flow.RowMachine.{entry, is_negative, is_zero, place_from, reduced};
 ghost use Rattle.wc_simplex.specs.Inner.Steps.{Leaves};
 
-use crate::numbers::{common_divisor, is_below_zero, is_nonzero, mixed, negated, quotient};
+use crate::numbers::{divisor_with, is_below_zero, is_nonzero, mixed, negated, quotient};
 use std::marker::Model;
 
 /// A row of the tableau: its entries at the structural, the slack and the artificial columns, its right side, and
@@ -151,7 +151,7 @@ fn divisor(row: &[i128]) -> u128
 {
     let mut found = 0;
     for entry in row {
-        found = common_divisor(found, entry.unsigned_abs());
+        found = divisor_with(found, entry);
         if found == 1 {
             return 1;
         }

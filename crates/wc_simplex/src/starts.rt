@@ -1,6 +1,7 @@
 ghost use Rattle.std.specs.Prelude.{◌≡◌, ◌<◌, ◌+◌, ◌^◌, ◌++◌, ◌∷◌, [], All, IfOk, IfSome, get_or, length, map, pos, replicate, take};
 ghost use Rattle.std.specs.List.{range_with_len};
 ghost use Rattle.std.specs.Option.{option_and_then, option_map};
+ghost use Rattle.wc_model.specs.Flow.Cells.{columns_of};
 ghost use Rattle.wc_model.specs.Flow.Exact.{add_rows, each_of, negate_exact};
 ghost use Rattle.wc_model.specs.Flow.Systems.{IsSystem};
 ghost use Rattle.wc_model.specs.Flow.Tableaus.{column_cost, cost_row, goal_start, lines_of, starting, sum_of_rows, whole_row, whole_rows};
@@ -241,6 +242,7 @@ pub fn begin(
     requires system { IsSystem system.now }
     requires passed { ArePassed system.now passed.now }
     requires columns { All (IsColumn (length system.now.steps)) columns.now }
+    requires ordered { columns.now ≡ columns_of system.now }
     requires few { length columns.now + length system.now.loops + length system.now.limits + length (lines_of system.now) < 2 ^ 32 }
     ensures { IfOk result (λ o. option_map start_as o ≡ starting system.now columns.now) }
 {

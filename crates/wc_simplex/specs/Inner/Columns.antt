@@ -1,11 +1,11 @@
 -- (inner) What the code knows of the steps out of and into nodes, and of columns.
-use Rattle.std.specs.Prelude.{◌≡◌, ℕ, zero, suc, ◌+◌, ◌<◌, ◌==◌, Bool, if◌then◌else◌, List, [], ◌∷◌, map, drop, get_or, length, set, Option, None, Some, IfSome, All}
+use Rattle.std.specs.Prelude.{◌≡◌, ℕ, zero, suc, ◌+◌, ◌-◌, ◌<◌, ◌==◌, ℤ, ◌-ℤ◌, Bool, if◌then◌else◌, List, [], ◌∷◌, map, drop, get_or, length, set, Option, None, Some, IfSome, All}
 use Rattle.wc_model.specs.declared.flow_system.System.{System}
 use Rattle.wc_model.specs.declared.flow_system.SystemStep.{SystemStep}
 use Rattle.wc_model.specs.Flow.Cells.{comes_before, least_in, passed_out}
 use Rattle.wc_model.specs.Flow.Places.{places_from}
 use Rattle.wc_model.specs.Flow.Systems.{leads_to}
-use Rattle.wc_model.specs.Flow.Tableaus.{no_step}
+use Rattle.wc_model.specs.Flow.Tableaus.{no_step, one_if}
 use Rattle.wc_simplex.specs.declared.only.Only.{Only}
 use Rattle.wc_simplex.specs.declared.only.Only.TheVariants.{Nothing, One, Several}
 use Rattle.wc_simplex.specs.Inner.Only.{and_one, only_as}
@@ -64,3 +64,9 @@ with_lead found (Some q) place = set found q (and_one place (get_or found q Noth
 -- each step leads to where the next one begins
 abbrev pub IsChain : System → List ℕ → Type 0
 IsChain s column = (k : ℕ) → suc k < length column → (get_or s.steps (get_or column k 0) no_step).target ≡ Some (get_or s.steps (get_or column (suc k) 0) no_step).source
+
+-- What a node's row has at a column, where each step between leads through nodes that have no rows: 1 if the first step
+-- leaves the node, less 1 if the last one leads to it.
+abbrev pub node_ends : List SystemStep → ℕ → List ℕ → ℤ
+node_ends steps q column =
+    one_if ((get_or steps (get_or column 0 0) no_step).source == q) -ℤ one_if (leads_to (get_or steps (get_or column (length column - 1) 0) no_step).target q)

@@ -1,7 +1,7 @@
 use Rattle.std.proofs.Common.{◌≡◌, ◌-◌, ◌+◌, ◌∙◌, ℕ, List, ap, ap₂, drop, length, take, arith, sym}
 use Rattle.std.proofs.lemmas.List.{length-drop, take_all}
 use Rattle.wc_model.specs.Flow.Cells.{row_nodes}
-use Rattle.wc_simplex.proofs.RunLemmas.{split_is}
+use Rattle.wc_simplex.proofs.PricedLemmas.{split_is}
 use Rattle.wc_simplex.proofs.prices.split.Goals as goal
 
 pub returns : goal.returns

@@ -2,7 +2,7 @@ use Rattle.std.proofs.Common.{◌≡◌, ◌∙◌, Option, Vec, ap, length, sub
 use Rattle.std.specs.Option.{IfSome, option_map}
 use Rattle.wc_model.specs.Flow.RowResults.{inner_potentials, split_prices}
 use Rattle.wc_simplex.specs.Inner.Prices.{IsKnownAs}
-use Rattle.wc_simplex.proofs.RunLemmas.{ray_is}
+use Rattle.wc_simplex.proofs.PricedLemmas.{ray_is}
 use Rattle.wc_simplex.proofs.reading.potentials.Goals as goal
 
 pub merge-requires-clause-inner : goal.merge-requires-clause-inner

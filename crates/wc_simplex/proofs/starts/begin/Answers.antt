@@ -6,7 +6,7 @@ use Rattle.wc_model.specs.Flow.Tableaus.{halves, lines_of, starting}
 use Rattle.wc_simplex.specs.declared.half.HalfRow.{HalfRow}
 use Rattle.wc_simplex.specs.Inner.Halves.{half_as}
 use Rattle.wc_simplex.specs.Inner.Starts.{start_as, start_from}
-use Rattle.wc_simplex.proofs.RunLemmas.{rows_made, rows_wide, starting_fails, starting_goes}
+use Rattle.wc_simplex.proofs.StartingLemmas.{rows_made, rows_wide, starting_fails, starting_goes}
 use Rattle.wc_simplex.proofs.starts.begin.Goals as goal
 
 pub begin_from-requires-clause-rows : goal.begin_from-requires-clause-rows
@@ -37,3 +37,6 @@ returns-in-Some c =
     (λ o is. is ∙ ap (λ l. start_from c.args.system.now c.args.columns.now (length c.items.result.now + length c.items-2.result.now) (map half_as l)) c.deref.ensures.value
     ∙ starting_goes c.args.system.now c.args.columns.now (length c.items.result.now + length c.items-2.result.now) (ap₂ (λ m n. m + n) (ap length c.items.ensures) (ap length c.items-2.ensures))
     c.in-Some.halves.items (sym (ap (option_map (λ v. map half_as v.items)) c.in-Some.is) ∙ c.in_ok-make_halves.ensures)) c.begin_from.ensures
+
+pub make_halves-requires-clause-slacks : goal.make_halves-requires-clause-slacks
+make_halves-requires-clause-slacks c = ap₂ (λ m n. m + n) (ap length c.items.ensures) (ap length c.items-2.ensures)

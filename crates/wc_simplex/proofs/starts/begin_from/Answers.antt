@@ -1,5 +1,5 @@
 use Rattle.std.proofs.Common.{◌≡◌, ◌∙◌, refl, sym, subst, rules}
-use Rattle.wc_simplex.proofs.RunLemmas.{goal_begins, goal_fails}
+use Rattle.wc_simplex.proofs.StartingLemmas.{goal_begins, goal_fails}
 use Rattle.wc_simplex.proofs.starts.begin_from.Goals as goal
 
 pub returns-in-None-2 : goal.returns-in-None-2
