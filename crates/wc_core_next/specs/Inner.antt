@@ -1,0 +1,12 @@
+pub mod Begins
+pub mod Ends
+pub mod Gifts
+pub mod Lines
+pub mod Moves
+pub mod Seats
+pub mod Shelves
+pub mod Stages
+pub mod Steps
+pub mod Stocks
+pub mod Touching
+pub mod Works

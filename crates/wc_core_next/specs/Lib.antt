@@ -1,0 +1,7 @@
+pub mod Answers
+pub mod Features
+pub mod Fits
+pub mod Inner
+pub mod Openings
+pub mod Turns
+pub mod Views
