@@ -1,6 +1,7 @@
 pub mod Answers
 pub mod Features
 pub mod Fits
-pub mod Holds
+pub mod Inner
+pub mod Openings
 pub mod Turns
 pub mod Views

@@ -1,12 +1,11 @@
 -- What comes next for an open ask.
 use Rattle.std.specs.Prelude.{ℕ, Bool, true, false, not, ◌||◌, ◌==◌, if◌then◌else◌, List, [], ◌∷◌, find, Option, None, Some, ◌≡◌}
 use Rattle.std.specs.Option.{option_map, option_map_or}
-use Rattle.wc_model.specs.declared.entries.Entry.{Entry}
 use Rattle.wc_model.specs.declared.values.Outcome.{Outcome}
 use Rattle.wc_model.specs.declared.values.Outcome.TheVariants.{Memory}
 use Rattle.wc_model.specs.Workspace.Closures.{order_of}
 use Rattle.wc_model.specs.Workspace.Edits.{Setting}
-use Rattle.wc_model.specs.Workspace.History.{Chain, state_after, bound_kind}
+use Rattle.wc_model.specs.Workspace.History.{Chain, bound_kind}
 use Rattle.wc_model.specs.Workspace.States.{Opening, Key, State, Run, Ask, same_key, key_of, home_of, within_reach}
 
 pub data Turn : Type 0 where
@@ -43,9 +42,6 @@ turn_for o st ask (Some kind) =
 abbrev pub next_turn : Opening → State → Ask → Turn
 next_turn o st ask =
     if ask.memory || within_reach o st ask bound_kind then answers else turn_for o st ask (first_missing o st ask (order_of o.kinds))
-
-abbrev pub IsTurn : Opening → List Entry → Ask → Turn → Type 0
-IsTurn o history ask turn = (st : State) → state_after o history ≡ Some st → next_turn o st ask ≡ turn
 
 -- The outcome is want of memory exactly where one of the ask's own runs found none, and else the chain's.
 abbrev pub OutcomeIs : Chain → Bool → Setting → List ℕ → Outcome → Type 0

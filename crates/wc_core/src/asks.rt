@@ -1,357 +1,171 @@
-ghost use Rattle.std.specs.Prelude.{ℕ, ◌≡◌, ◌∷◌, [], ◌++◌, ◌+◌, ◌*◌, true, false, IfOk, OnErr, MatchResult, MatchOption, length, Some, None};
-ghost use Rattle.wc_model.specs.Workspace.Edits.{after};
-ghost use Rattle.wc_model.specs.Workspace.History.{IsLegal, state_after};
-ghost use Rattle.wc_model.specs.Workspace.States.{State};
-ghost use Rattle.wc_core.specs.Answers.{LeavesFree, KeepsOthers, IsPinned, IsDone, IsStarted, IsBusy, IsGiven, is_current};
-ghost use Rattle.wc_core.specs.Features.{Each};
-ghost use Rattle.wc_core.specs.Fits.{EachFeature, FitsTicket, FitsFlight, FitsLanded, is_settled};
-ghost use Rattle.wc_core.specs.Holds.{AreFeatures, entries_needed, has_value, is_reached};
-ghost use Rattle.wc_core.specs.Turns.{IsTurn, OutcomeIs, answers, starts, waits};
-ghost use Rattle.wc_core.specs.Views.{SameAsk, ask_of, landed_of};
+ghost use Rattle.std.specs.Prelude.{◌≡◌, not, find, option_map, reverse};
+ghost use Rattle.wc_model.specs.Workspace.History.{IsLegal, key_with};
+ghost use Rattle.wc_core.specs.Answers.{Advances, IsDone, IsStarted, IsBusy};
+ghost use Rattle.wc_core.specs.Fits.{FitsTicket};
+ghost use Rattle.wc_core.specs.Inner.Steps.{IsStep, bound_key, is_reached, outcome_now, step_is, told};
+ghost use Rattle.wc_core.specs.Inner.Works.{runs_with};
+ghost use Rattle.wc_core.specs.Turns.{unless_running, runner_of_key};
 
+use crate::answers::Step;
+use crate::moves::{pull, put};
+use crate::seats::Seat;
 use crate::shared::Core;
-use crate::store::{Slot, find_value, keep};
-use crate::tickets::{Flight, Landed, Next, Ticket};
+use crate::store::Store;
+use crate::tickets::{Flight, Next, Ticket};
 use crate::work::Work;
-use std::alloc::{AllocError, Global};
-use std::sync::Arc;
-use wc_model::{Asked, End, Entry, Outcome, Text};
+use crate::works::Works;
+use wc_model::{Asked, Entry, Kind, Outcome};
 
-// How many entries an ask may add after its pin: a start, a finish and its answer.
-const ENTRIES: usize = 3;
-
-// How many copies of its name an ask needs: one for a row of the store, and one for each entry to come.
-const NAMES: usize = 4;
-
-fn text_of(alloc: Global, name: &[u8]) -> Result<Text, AllocError>
-    ensures { IfOk result (λ t. t ≡ name.now) }
+// The key of the bound.
+fn bound_key(keys: &[(Kind, u64)]) -> Option<&(Kind, u64)>
+    ensures { option_map (λ k. k.now) result ≡ bound_key keys.now }
 {
-    let mut bytes = Vec::new(alloc);
-    bytes.extend_from_slice(name)?;
-    Ok(Text::new(bytes))
+    keys.iter().find(|key| key.0.number() == 11)
 }
 
-fn copies_of(alloc: Global, name: &[u8]) -> Result<Vec<Text>, AllocError>
-    ensures names { IfOk result (λ ts. Each (λ t. t ≡ name.now) ts.items) }
-    ensures count { IfOk result (λ ts. length ts.items ≡ 4) }
+fn is_reached<V>(store: &Store<V>, ticket: &Ticket<V>, key: (Kind, u64)) -> bool
+    ensures { result ≡ is_reached ticket.now.name ticket.now.had store.now.lines key }
 {
-    let mut names = Vec::new(alloc);
-    for _made in 0..NAMES {
-        names.push(text_of(alloc, name)?)?;
-    }
-    Ok(names)
+    ticket.given.has(key.0) || store.has(ticket.job.name.items(), key.0, key.1)
 }
 
-// The outcome of the bound that is stored for an ask.
-fn stored_outcome<W: Work>(slots: &[Slot<W::Value>], ticket: &Ticket<W::Value>) -> Option<Outcome>
-    requires { AreFeatures (W.is_feature 11 ticket.now.inputs) slots.now }
-    ensures { MatchOption result (has_value ticket.now.name slots.now ≡ false) (λ o. (has_value ticket.now.name slots.now ≡ true) × OutcomeIs W.chain false ticket.now.inputs ticket.now.name o) }
+// The first key that isn't within the ask's reach.
+fn missing<'a, V>(
+    store: &Store<V>,
+    ticket: &Ticket<V>,
+    keys: &'a [(Kind, u64)],
+) -> Option<&'a (Kind, u64)>
+    ensures { option_map (λ k. k.now) result ≡ find (λ k. not (is_reached ticket.now.name ticket.now.had store.now.lines k)) keys.now }
 {
-    match find_value(slots, ticket.name.items()) {
+    keys.iter().find(|key| !is_reached(store, ticket, **key))
+}
+
+// What the value of a key tells.
+fn told<W: Work>(
+    store: &Store<W::Value>,
+    ticket: &Ticket<W::Value>,
+    key: (Kind, u64),
+) -> Option<Outcome>
+    ensures { result ≡ told W.outcome_of ticket.now.name ticket.now.session ticket.now.had store.now.lines key }
+{
+    match ticket.given.get(key.0) {
         Some(value) => W::outcome(value),
-        None => None,
+        None => match store.get(
+            ticket.job.name.items(),
+            key.0,
+            key.1,
+            ticket.session as usize,
+        ) {
+            Some(value) => W::outcome(value),
+            None => None,
+        },
+    }
+}
+
+// Whether a key runs, has to wait for a work, or can start.
+fn step_for<W: Work>(works: &Works<W>, name: &[u8], key: (Kind, u64)) -> Step
+    ensures { step_is key result (unless_running key.0 (reverse (runs_with key.0 works.now.home)) works.now.out (runner_of_key (key_with key.0 name.now key.1) works.now.out)) }
+{
+    match works.runner(key.0, name, key.1) {
+        Some(session) => Step::Waits(session),
+        None if works.has(key.0) => Step::Starts(key.0, key.1),
+        None => Step::Waits(works.earliest(key.0)),
     }
 }
 
 // The outcome that an ask can answer with now: want of memory where a run of it found none, or else that of its bound.
-fn reached<W: Work>(
-    slots: &[Slot<W::Value>],
-    stamp: u64,
+fn outcome<W: Work>(
+    store: &Store<W::Value>,
     ticket: &Ticket<W::Value>,
+    keys: &[(Kind, u64)],
 ) -> Option<Outcome>
-    requires stored { ticket.now.stamp ≡ stamp → AreFeatures (W.is_feature 11 ticket.now.inputs) slots.now }
-    requires held { EachFeature (λ k v. W.is_feature k ticket.now.inputs ticket.now.name v) ticket.now.had }
-    ensures { MatchOption result (is_reached ticket.now stamp slots.now ≡ false) (λ o. (is_reached ticket.now stamp slots.now ≡ true) × OutcomeIs W.chain ticket.now.memory ticket.now.inputs ticket.now.name o) }
+    ensures { result ≡ outcome_now W.outcome_of ticket.now store.now.lines keys.now }
 {
     if ticket.memory {
         return Some(Outcome::Memory);
     }
-    match &ticket.had {
-        Some(value) => W::outcome(value),
-        None if ticket.stamp == stamp => stored_outcome::<W>(slots, ticket),
+    match bound_key(keys) {
+        Some(key) => told::<W>(store, ticket, *key),
         None => None,
     }
 }
 
-// How many entries an ask may still add.
-fn needed<V>(ticket: &Ticket<V>) -> usize
-    ensures { result ≡ entries_needed (ask_of ticket.now) }
-{
-    if ticket.memory || ticket.had.is_some() {
-        1
-    } else {
-        ENTRIES
-    }
-}
-
-/// What an open ask does next: it answers, it starts a run, or it waits for a session.
-#[derive(Clone, Copy)]
-pub(crate) enum Step {
-    Answers(Outcome),
-    Starts,
-    Waits(u32),
-}
-
 impl<W: Work> Core<W> {
-    fn step_for(&self, ticket: &Ticket<W::Value>) -> Step
+    fn turn(&self, ticket: &Ticket<W::Value>) -> Step
         requires { FitsTicket W.is_feature self.now.opening self.now.history ticket.now }
-        ensures turn { elim result [ Step.Answers o ↦ IsTurn self.now.opening self.now.history (ask_of ticket.now) answers × OutcomeIs W.chain ticket.now.memory (after self.now.opening.image ticket.now.at self.now.history) ticket.now.name o | Step.Starts ↦ IsTurn self.now.opening self.now.history (ask_of ticket.now) (starts 11) | Step.Waits s ↦ IsTurn self.now.opening self.now.history (ask_of ticket.now) (waits s) ] }
+        ensures step { IsStep W.chain self.now ticket.now result }
         ensures legal { IsLegal W.chain self.now.opening self.now.history }
-        ensures alone { self.now.opening.sessions ≡ 1 → elim result [ Step.Answers o ↦ Unit {0} | Step.Starts ↦ Unit {0} | Step.Waits s ↦ ⊥ ] }
     {
-        match reached::<W>(self.slots.as_slice(), self.stamp, ticket) {
+        let keys = self.seats.keys(ticket.session as usize);
+        match outcome::<W>(&self.store, ticket, keys) {
             Some(outcome) => Step::Answers(outcome),
-            None => match self.runner {
-                Some(session) => Step::Waits(session),
-                None => Step::Starts,
+            None => match missing(&self.store, ticket, keys) {
+                Some(key) => step_for(&self.works, ticket.job.name.items(), *key),
+                None => Step::Waits(0),
             },
         }
     }
 
     fn answer(&mut self, mut ticket: Ticket<W::Value>, outcome: Outcome) -> Asked
         requires fits { FitsTicket W.is_feature self.old.opening self.old.history ticket }
-        requires turn { IsTurn self.old.opening self.old.history (ask_of ticket) answers }
-        requires told { OutcomeIs W.chain ticket.memory (after self.old.opening.image ticket.at self.old.history) ticket.name outcome }
-        ensures opening { self.new.opening ≡ self.old.opening }
-        ensures legal { IsLegal W.chain self.new.opening self.new.history }
-        ensures here { (result.at ≡ ticket.at) × (result.outcome ≡ outcome) }
-        ensures entry { self.new.history ≡ self.old.history ++ Entry.Answer ticket.session ticket.name ticket.at outcome ∷ [] }
-        ensures free { LeavesFree self.new.opening self.new.history ticket.session }
-        ensures others { KeepsOthers W.is_feature self.old self.new ticket.session }
+        requires step { IsStep W.chain self.old ticket (Step.Answers outcome) }
+        ensures done { IsDone W.chain self.old self.new ticket result }
+        ensures goes { Advances W.chain W.is_feature self.old self.new ticket.session }
     {
-        let needed = needed(&ticket);
-        let name = ticket.take_name();
+        let session = ticket.session as usize;
+        let alloc = *self.history.allocator();
+        put(&mut self.store, self.seats.keys(session), &mut ticket);
+        let name = self.seats.take_name(session);
         self.history.push_reserved(Entry::Answer {
             session: ticket.session,
             name,
             at: ticket.at,
             outcome,
         });
-        self.owed -= needed;
+        self.owed -= self.seats.names(session) + 1;
+        self.seats.fill(session, Seat::empty(alloc));
         Asked {
             at: ticket.at,
             outcome,
         }
     }
 
-    fn depart(&mut self, mut ticket: Ticket<W::Value>) -> Flight<W>
+    fn depart(&mut self, mut ticket: Ticket<W::Value>, kind: Kind, stamp: u64) -> Flight<W>
         requires fits { FitsTicket W.is_feature self.old.opening self.old.history ticket }
-        requires turn { IsTurn self.old.opening self.old.history (ask_of ticket) (starts 11) }
-        ensures opening { self.new.opening ≡ self.old.opening }
-        ensures legal { IsLegal W.chain self.new.opening self.new.history }
-        ensures kind { result.kind ≡ 11 }
-        ensures same { SameAsk ticket result.ticket }
-        ensures entry { self.new.history ≡ self.old.history ++ Entry.Start ticket.session result.kind ticket.name result.stamp ∷ [] }
-        ensures fits { FitsFlight W.is_feature self.new.opening self.new.history result }
-        ensures others { KeepsOthers W.is_feature self.old self.new ticket.session }
+        requires step { IsStep W.chain self.old ticket (Step.Starts kind stamp) }
+        ensures started { IsStarted W.is_feature self.old self.new ticket result }
+        ensures goes { Advances W.chain W.is_feature self.old self.new ticket.session }
     {
-        let work = self.works.take_last();
-        let name = ticket.take_name();
+        let session = ticket.session as usize;
+        pull(&mut self.store, self.seats.keys(session), &mut ticket);
+        let going = self.seats.take_name(session);
+        let name = self.seats.take_name(session);
+        let work = self.works.send(ticket.session, kind, going, stamp);
         self.history.push_reserved(Entry::Start {
             session: ticket.session,
-            kind: work.kind(),
+            kind,
             name,
-            stamp: ticket.stamp,
+            stamp,
         });
-        self.runner = Some(ticket.session);
         self.owed -= 1;
-        let stamp = ticket.stamp;
         Flight {
             work,
             ticket,
             stamp,
+            sessions: self.sessions,
         }
     }
 
     /// Answers the ask, or sends out the work that is needed next. It takes no memory.
     pub fn next(&mut self, ticket: Ticket<W::Value>) -> Next<W>
         requires { FitsTicket W.is_feature self.old.opening self.old.history ticket }
-        ensures opening { self.new.opening ≡ self.old.opening }
-        ensures legal { IsLegal W.chain self.new.opening self.new.history }
         ensures answer { elim result [ Next.Done asked ↦ IsDone W.chain self.old self.new ticket asked | Next.Run flight ↦ IsStarted W.is_feature self.old self.new ticket flight | Next.Busy back session ↦ IsBusy self.old self.new ticket back session ] }
-
-        ensures others { KeepsOthers W.is_feature self.old self.new ticket.session }
-
-        // Where there is one session, an ask waits for nobody.
-        ensures alone { self.old.opening.sessions ≡ 1 → elim result [ Next.Done asked ↦ Unit {0} | Next.Run flight ↦ Unit {0} | Next.Busy back session ↦ ⊥ ] }
+        ensures goes { Advances W.chain W.is_feature self.old self.new ticket.session }
     {
-        match self.step_for(&ticket) {
+        match self.turn(&ticket) {
             Step::Answers(outcome) => Next::Done(self.answer(ticket, outcome)),
-            Step::Starts => Next::Run(self.depart(ticket)),
+            Step::Starts(kind, stamp) => Next::Run(self.depart(ticket, kind, stamp)),
             Step::Waits(session) => Next::Busy(ticket, session),
         }
-    }
-
-    // Whether no edit touched what the value depends on since the ask was pinned.
-    fn is_current(&self, landed: &Landed<W>) -> bool
-        requires { FitsLanded W.is_feature self.now.opening self.now.history landed.now }
-        ensures { (st : State) → state_after self.now.opening self.now.history ≡ Some st → result ≡ is_current self.now.opening st landed.now.kind landed.now.stamp }
-    {
-        landed.stamp == self.stamp
-    }
-
-    // Want of memory comes home.
-    fn take_back(&mut self, work: W, mut ticket: Ticket<W::Value>, stamp: u64) -> Ticket<W::Value>
-        requires ready { W.may_run work }
-        requires fits { FitsLanded W.is_feature self.old.opening self.old.history (landed_of ticket (W.kind_of work) stamp (W.runs_of work) None) }
-        ensures opening { self.new.opening ≡ self.old.opening }
-        ensures legal { IsLegal W.chain self.new.opening self.new.history }
-        ensures same { SameAsk ticket result }
-        ensures memory { result.memory ≡ true }
-        ensures entry { self.new.history ≡ self.old.history ++ Entry.Finish ticket.session (W.kind_of work) ticket.name stamp End.Memory ∷ [] }
-        ensures fits { FitsTicket W.is_feature self.new.opening self.new.history result }
-        ensures others { KeepsOthers W.is_feature self.old self.new ticket.session }
-    {
-        let name = ticket.take_name();
-        let kind = work.kind();
-        self.works.push_reserved(work);
-        self.history.push_reserved(Entry::Finish {
-            session: ticket.session,
-            kind,
-            name,
-            stamp,
-            end: End::Memory,
-        });
-        self.runner = None;
-        self.owed -= 1;
-        ticket.memory = true;
-        ticket
-    }
-
-    // A value comes home whose part was edited since the ask was pinned: the ask alone keeps it.
-    fn let_go(
-        &mut self,
-        work: W,
-        mut ticket: Ticket<W::Value>,
-        stamp: u64,
-        own: Arc<W::Value>,
-    ) -> Ticket<W::Value>
-        requires ready { W.may_run work }
-        requires fits { FitsLanded W.is_feature self.old.opening self.old.history (landed_of ticket (W.kind_of work) stamp (W.runs_of work) (Some own.value)) }
-        requires past { (st : State) → state_after self.old.opening self.old.history ≡ Some st → is_current self.old.opening st (W.kind_of work) stamp ≡ false }
-        ensures opening { self.new.opening ≡ self.old.opening }
-        ensures legal { IsLegal W.chain self.new.opening self.new.history }
-        ensures same { SameAsk ticket result }
-        ensures memory { result.memory ≡ false }
-        ensures settled { is_settled result ≡ true }
-        ensures entry { self.new.history ≡ self.old.history ++ Entry.Finish ticket.session (W.kind_of work) ticket.name stamp End.Dropped ∷ [] }
-        ensures fits { FitsTicket W.is_feature self.new.opening self.new.history result }
-        ensures others { KeepsOthers W.is_feature self.old self.new ticket.session }
-    {
-        let name = ticket.take_name();
-        let kind = work.kind();
-        self.works.push_reserved(work);
-        self.history.push_reserved(Entry::Finish {
-            session: ticket.session,
-            kind,
-            name,
-            stamp,
-            end: End::Dropped,
-        });
-        self.runner = None;
-        self.owed -= 1;
-        ticket.had = Some(own);
-        ticket
-    }
-
-    // A value comes home that is as the inputs are now: it is kept.
-    fn take_in(
-        &mut self,
-        work: W,
-        mut ticket: Ticket<W::Value>,
-        stamp: u64,
-        value: Arc<W::Value>,
-        own: Arc<W::Value>,
-    ) -> Ticket<W::Value>
-        requires ready { W.may_run work }
-        requires copies { own.value ≡ value.value }
-        requires current { (st : State) → state_after self.old.opening self.old.history ≡ Some st → is_current self.old.opening st (W.kind_of work) stamp ≡ true }
-        requires fits { FitsLanded W.is_feature self.old.opening self.old.history (landed_of ticket (W.kind_of work) stamp (W.runs_of work) (Some value.value)) }
-        ensures opening { self.new.opening ≡ self.old.opening }
-        ensures legal { IsLegal W.chain self.new.opening self.new.history }
-        ensures same { SameAsk ticket result }
-        ensures memory { result.memory ≡ false }
-        ensures settled { is_settled result ≡ true }
-        ensures entry { self.new.history ≡ self.old.history ++ Entry.Finish ticket.session (W.kind_of work) ticket.name stamp End.Kept ∷ [] }
-        ensures fits { FitsTicket W.is_feature self.new.opening self.new.history result }
-        ensures others { KeepsOthers W.is_feature self.old self.new ticket.session }
-    {
-        let name = ticket.take_name();
-        let row = ticket.take_name();
-        let kind = work.kind();
-        self.works.push_reserved(work);
-        self.history.push_reserved(Entry::Finish {
-            session: ticket.session,
-            kind,
-            name,
-            stamp,
-            end: End::Kept,
-        });
-        keep(&mut self.slots, row, value);
-        self.runner = None;
-        self.owed -= 1;
-        ticket.had = Some(own);
-        ticket
-    }
-
-    /// Takes the work back, and keeps the value that it gave where no edit touched what it depends on since the ask was
-    /// pinned. The ask has its own copy. It takes no memory.
-    pub fn give(&mut self, landed: Landed<W>) -> Ticket<W::Value>
-        requires { FitsLanded W.is_feature self.old.opening self.old.history landed }
-        ensures opening { self.new.opening ≡ self.old.opening }
-        ensures legal { IsLegal W.chain self.new.opening self.new.history }
-        ensures answer { IsGiven W.is_feature self.old self.new landed result }
-        ensures others { KeepsOthers W.is_feature self.old self.new landed.ticket.session }
-
-        // While there is one kind, an ask needs no other run.
-        ensures settled { is_settled result ≡ true }
-    {
-        let current = self.is_current(&landed);
-        let Landed {
-            work,
-            ticket,
-            stamp,
-            gave,
-        } = landed;
-        match gave {
-            None => self.take_back(work, ticket, stamp),
-            Some((value, own)) if current => self.take_in(work, ticket, stamp, value, own),
-            Some((_value, own)) => self.let_go(work, ticket, stamp, own),
-        }
-    }
-
-    /// Opens an ask for the inputs as they are now. It takes all the memory that `next` and `give` will need.
-    pub fn pin(&mut self, session: u32, name: &[u8]) -> Result<Ticket<W::Value>, AllocError>
-        requires { LeavesFree self.old.opening self.old.history session }
-        ensures opening { self.new.opening ≡ self.old.opening }
-        ensures legal { IsLegal W.chain self.new.opening self.new.history }
-        ensures ok { IfOk result (IsPinned self.old self.new session name.now) }
-        ensures fits { IfOk result (FitsTicket W.is_feature self.new.opening self.new.history) }
-        ensures others { KeepsOthers W.is_feature self.old self.new session }
-        ensures err { OnErr result (self.new ≡ self.old) }
-    {
-        let alloc = *self.history.allocator();
-        let at = self.count;
-        let shared = Arc::new(alloc, text_of(alloc, name)?)?;
-        let entry = text_of(alloc, name)?;
-        let names = copies_of(alloc, name)?;
-        let inputs = Arc::try_clone(&self.inputs)?;
-        self.history.reserve(self.owed + ENTRIES + 1)?;
-        self.history.push_reserved(Entry::Pin {
-            session,
-            name: entry,
-            at,
-        });
-        self.owed += ENTRIES;
-        Ok(Ticket {
-            session,
-            name: shared,
-            at,
-            inputs,
-            stamp: self.stamp,
-            had: None,
-            memory: false,
-            names,
-        })
     }
 }

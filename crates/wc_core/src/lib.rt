@@ -4,17 +4,25 @@
 mod answers;
 mod asks;
 mod calls;
-mod changes;
+mod given;
+mod moves;
 mod opening;
+mod pins;
+mod rows;
+mod seats;
 mod shared;
+mod shelves;
 mod store;
 mod tickets;
+mod touching;
 mod work;
+mod works;
 
 pub use answers::Edited;
+pub use given::Given;
 pub use shared::Core;
 pub use tickets::{Flight, Landed, Next, Ticket};
-pub use work::{Given, Job, Work};
+pub use work::{Job, Work};
 
 #[cfg(test)]
 mod tests;

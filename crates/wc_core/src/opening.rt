@@ -1,115 +1,168 @@
-ghost use Rattle.std.specs.Prelude.{ℕ, ◌≡◌, ◌∷◌, [], ◌+◌, ◌<◌, ◌≤◌, ◌^◌, IfOk, length, map, if◌then◌else◌};
+ghost use Rattle.std.specs.Prelude.{ℕ, ◌≡◌, List, ◌∷◌, [], ◌++◌, ◌+◌, ◌<◌, ◌≤◌, All, IfOk, map};
 ghost use Rattle.wc_model.specs.declared.elf_image.Image.{Image};
-ghost use Rattle.wc_model.specs.Workspace.Closures.{touches_any};
-ghost use Rattle.wc_model.specs.Workspace.Edits.{bare};
-ghost use Rattle.wc_model.specs.Workspace.History.{IsLegal, opening_entries, opening_entry};
-ghost use Rattle.wc_core.specs.Answers.{LeavesFree, RunsNothing, AreRuns};
-ghost use Rattle.wc_core.specs.Features.{Each};
-ghost use Rattle.wc_core.specs.Holds.{all_parts, bound_alone, shared_opening, stamp_from};
+ghost use Rattle.wc_model.specs.declared.inputs.Edit.{Edit};
+ghost use Rattle.wc_model.specs.Workspace.Closures.{order_of};
+ghost use Rattle.wc_model.specs.Workspace.Edits.{setting_of};
+ghost use Rattle.wc_model.specs.Workspace.History.{IsLegal};
+ghost use Rattle.wc_core.specs.Answers.{AreRuns, RunsNothing};
+ghost use Rattle.wc_core.specs.Inner.Begins.{AreBegun};
+ghost use Rattle.wc_core.specs.Openings.{IsOpened, IsStaffed, opening_with, works_in};
 
-use crate::changes::is_changed;
+use crate::seats::Seats;
 use crate::shared::Core;
-use crate::store::Slot;
+use crate::store::Store;
+use crate::touching::{edit_inputs, stamp, touched_by};
 use crate::work::Work;
+use crate::works::Works;
 use std::alloc::{AllocError, Global};
 use std::sync::Arc;
 use wc_model::{
-    Describe, Edit, Entry, Fact, Facts, Hardware, Image, Inputs, copy_fact, default_hardware,
-    is_checksum, opening_facts,
+    Edit, Entry, Fact, Facts, Hardware, Image, Inputs, Kind, copy_fact, default_hardware,
 };
+use wc_registry::Registry;
 
-// How many names the store has rows for.
-const ROWS: usize = 32;
-
-// The stamp after the opening hardware, which is edit 1.
-fn first_stamp(hardware: &Hardware) -> u64
-    ensures { (image : Image) → result ≡ (if touches_any all_parts (bare image) (Edit.Hardware hardware.now) then 1 else 0) }
+// A kind with no stamp yet.
+fn first_key(kind: Kind) -> (Kind, u64)
+    ensures key { result ≡ (kind, 0) }
+    ensures below { kind < 65 }
 {
-    if is_changed(&default_hardware(), hardware) {
-        1
-    } else {
-        0
-    }
+    let _number = kind.number();
+    (kind, 0)
 }
 
-fn opening_history(
-    alloc: Global,
-    hardware: &Hardware,
-    facts: &Facts,
-) -> Result<Vec<Entry>, AllocError>
-    ensures { IfOk result (λ es. es.items ≡ Entry.Edit 0 1 (Edit.Hardware hardware.now) ∷ map opening_entry facts.now) }
+// Each kind, with no stamp yet.
+fn first_keys(alloc: Global, order: &[Kind]) -> Result<Vec<(Kind, u64)>, AllocError>
+    ensures keys { IfOk result (λ ks. ks.items ≡ map (λ k. (k, 0)) order.now) }
+    ensures below { IfOk result (λ ks. All (λ k. k.0 < 65) ks.items) }
 {
-    let mut history = Vec::new(alloc);
-    history.push(Entry::Edit {
-        session: 0,
-        count: 1,
-        edit: Edit::Hardware(*hardware),
-    })?;
-    for fact in facts.items() {
-        history.push(Entry::Edit {
-            session: 0,
-            count: fact.0,
-            edit: Edit::Add(copy_fact(&fact.1)?),
-        })?;
+    let mut keys = Vec::with_capacity(alloc, order.len())?;
+    for kind in order {
+        keys.push(first_key(*kind))?;
     }
-    Ok(history)
+    Ok(keys)
 }
 
-fn opening_stamp(first: u64, facts: &Facts) -> u64
-    ensures { result ≡ stamp_from first facts.now }
+fn count_of<W: Work>(works: &[W], kind: Kind) -> u64
+    ensures { works_in (map W.kind_of works.now) (kind ∷ []) ≡ (kind, result) ∷ [] }
 {
-    let mut stamp = first;
-    for fact in facts.items() {
-        if !is_checksum(&fact.1) {
-            stamp = fact.0;
+    let mut count = 0;
+    for work in works {
+        if work.kind().number() == kind.number() {
+            count += 1;
         }
     }
-    stamp
+    count
+}
+
+// How many works each kind has.
+fn counts_of<W: Work>(
+    alloc: Global,
+    order: &[Kind],
+    works: &[W],
+) -> Result<Vec<(Kind, u64)>, AllocError>
+    ensures { IfOk result (λ cs. cs.items ≡ works_in (map W.kind_of works.now) order.now) }
+{
+    let mut counts = Vec::with_capacity(alloc, order.len())?;
+    for kind in order {
+        counts.push((*kind, count_of(works, *kind)))?;
+    }
+    Ok(counts)
+}
+
+// What grows with each opening edit.
+#[derive(Drop)]
+struct Opened {
+    inputs: Arc<Inputs>,
+    keys: Vec<(Kind, u64)>,
+    history: Vec<Entry>,
+}
+
+impl Opened {
+    fn new(alloc: Global, image: Arc<Image>, registry: &Registry) -> Result<Opened, AllocError>
+        ensures begun { IfOk result (λ d. AreBegun registry.now image.value [] (setting_of d.inputs.value) d.keys.items d.history.items) }
+        ensures below { IfOk result (λ _. All (λ k. k < 65) (order_of registry.now)) }
+    {
+        let inputs = Inputs {
+            image,
+            facts: Facts::new(Vec::new(alloc)),
+            hardware: default_hardware(),
+        };
+        Ok(Opened {
+            inputs: Arc::new(alloc, inputs)?,
+            keys: first_keys(alloc, registry.order())?,
+            history: Vec::new(alloc),
+        })
+    }
+
+    fn add(&mut self, alloc: Global, registry: &Registry, edit: Edit) -> Result<(), AllocError>
+        ensures { (image : Image) (edits : List Edit) → AreBegun registry.now image edits (setting_of self.old.inputs.value) self.old.keys.items self.old.history.items → IfOk result (λ _. AreBegun registry.now image (edits ++ edit ∷ []) (setting_of self.new.inputs.value) self.new.keys.items self.new.history.items) }
+    {
+        let count = self.history.len() as u64 + 1;
+        let touched = touched_by(&self.inputs, &edit);
+        edit_inputs(alloc, &mut self.inputs, count, &edit)?;
+        stamp(&mut self.keys, registry, touched, count);
+        self.history.push(Entry::Edit {
+            session: 0,
+            count,
+            edit,
+        })?;
+        Ok(())
+    }
+
+    fn add_facts(
+        &mut self,
+        alloc: Global,
+        registry: &Registry,
+        facts: &[Fact],
+    ) -> Result<(), AllocError>
+        ensures { (image : Image) (edits : List Edit) → AreBegun registry.now image edits (setting_of self.old.inputs.value) self.old.keys.items self.old.history.items → IfOk result (λ _. AreBegun registry.now image (edits ++ map Edit.Add facts.now) (setting_of self.new.inputs.value) self.new.keys.items self.new.history.items) }
+    {
+        for fact in facts {
+            self.add(alloc, registry, Edit::Add(copy_fact(fact)?))?;
+        }
+        Ok(())
+    }
 }
 
 impl<W: Work> Core<W> {
-    /// A core whose history has the opening edits. It has one work, of the kind of the bound, and up to 64 sessions.
+    /// A core whose history has the opening edits. Each kind of the registry has a work, no work has another kind, and
+    /// none has run.
     pub fn new(
         alloc: Global,
         image: Arc<Image>,
-        kinds: Vec<Describe>,
+        registry: Registry,
         works: Vec<W>,
         hardware: Hardware,
         facts: Vec<Fact>,
         sessions: u32,
     ) -> Result<Core<W>, AllocError>
-        requires described { kinds.items ≡ W.described }
-        requires kinds { kinds.items ≡ bound_alone ∷ [] }
-        requires works { map W.kind_of works.items ≡ 11 ∷ [] }
-        requires runs { map W.runs_of works.items ≡ 0 ∷ [] }
-        requires ready { Each W.may_run works.items }
+        requires described { registry ≡ W.described }
+        requires staffed { IsStaffed registry (map W.kind_of works.items) }
+        requires runs { All (λ w. W.runs_of w ≡ 0) works.items }
         requires sessions { (1 ≤ sessions) × (sessions ≤ 64) }
-        ensures opening { IfOk result (λ c. c.opening ≡ shared_opening image.value hardware facts.items sessions) }
-        ensures history { IfOk result (λ c. c.history ≡ opening_entries c.opening) }
-        ensures legal { IfOk result (λ c. IsLegal W.chain c.opening c.history) }
-        ensures free { IfOk result (λ c. (session : ℕ) → 1 ≤ session → session ≤ sessions → LeavesFree c.opening c.history session) }
+        ensures { IfOk result (IsOpened W.chain (opening_with image.value registry (map W.kind_of works.items) hardware facts.items sessions)) }
     {
-        let live = opening_facts(alloc, facts.as_slice())?;
-        let history = opening_history(alloc, &hardware, &live)?;
-        let stamp = opening_stamp(first_stamp(&hardware), &live);
-        let count = facts.len() as u64 + 1;
-        let slots = Vec::with_capacity(alloc, ROWS)?;
-        let inputs = Inputs {
-            image,
-            facts: live,
-            hardware,
-        };
-        let inputs = Arc::new(alloc, inputs)?;
+        let mut opened = Opened::new(alloc, image, &registry)?;
+        opened.add(alloc, &registry, Edit::Hardware(hardware))?;
+        opened.add_facts(alloc, &registry, facts.as_slice())?;
+        let Opened {
+            inputs,
+            keys,
+            history,
+        } = opened;
+        let counts = counts_of(alloc, registry.order(), works.as_slice())?;
         Ok(Core {
+            registry,
+            counts,
             hardware,
             facts,
             sessions,
             inputs,
-            count,
-            stamp,
-            works,
-            slots,
-            runner: None,
+            count: history.len() as u64,
+            keys,
+            store: Store::new(alloc),
+            works: Works::new(alloc, works)?,
+            seats: Seats::new(alloc, sessions as usize + 1)?,
             owed: 0,
             history,
         })
@@ -119,23 +172,24 @@ impl<W: Work> Core<W> {
     pub fn close(self) -> (Vec<Entry>, Vec<W>)
         requires { RunsNothing self.opening self.history }
         ensures history { result.0.items ≡ self.history }
-        ensures runs { AreRuns self.opening self.history (map W.runs_of result.1.items) }
-        ensures all { map W.kind_of result.1.items ≡ 11 ∷ [] }
-        ensures ready { Each W.may_run result.1.items }
+        ensures legal { IsLegal W.chain self.opening result.0.items }
+        ensures runs { AreRuns self.opening self.history (map (λ w. (W.kind_of w, W.runs_of w)) result.1.items) }
     {
         let Core {
+            registry: _,
+            counts: _,
             hardware: _,
             facts: _,
             sessions: _,
             inputs: _,
             count: _,
-            stamp: _,
+            keys: _,
+            store: _,
             works,
-            slots: _,
-            runner: _,
+            seats: _,
             owed: _,
             history,
         } = self;
-        (history, works)
+        (history, works.close())
     }
 }

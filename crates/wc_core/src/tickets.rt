@@ -1,50 +1,34 @@
-ghost use Rattle.std.specs.Prelude.{ℕ, ◌≡◌, ◌+◌, ◌<◌, List, IfSome};
+ghost use Rattle.std.specs.Prelude.{ℕ, ◌≡◌, ◌≢◌, ◌+◌, ◌<◌, ◌≤◌, List, IfOk, IfSome};
 ghost use Rattle.wc_core.specs.Fits.{FitsFlight, FitsLanded};
-ghost use Rattle.wc_core.specs.Views.{given, AreCopies};
+ghost use Rattle.wc_core.specs.Inner.Gifts.{AreCopiesOf, IsCopyFor, IsGift};
 ghost use Rattle.wc_model.specs.declared.entries.Entry.{Entry};
 ghost use Rattle.wc_model.specs.Workspace.States.{Opening};
 
-use crate::work::{Given, Job, Work};
+use crate::given::Given;
+use crate::rows::Row;
+use crate::work::{Job, Work};
 use std::alloc::{AllocError, Global};
 use std::marker::Model;
 use std::sync::Arc;
-use wc_model::{Asked, Inputs, Text};
+use wc_model::Asked;
 
-/// An open ask in its session's hands: the inputs and the stamp that it was pinned to, and the values that it took.
+/// An open ask in its session's hands: the inputs that it was pinned to, and the values that it has.
 #[derive(Drop)]
 pub struct Ticket<V> {
     pub(crate) session: u32,
-    pub(crate) name: Arc<Text>,
     pub(crate) at: u64,
-    pub(crate) inputs: Arc<Inputs>,
-    pub(crate) stamp: u64,
-    pub(crate) had: Option<Arc<V>>,
     pub(crate) memory: bool,
-    pub(crate) names: Vec<Text>,
+    pub(crate) job: Job,
+    pub(crate) given: Given<V>,
 }
 
 impl<V> Model for Ticket<V> {
-    ghost use Rattle.std.specs.Prelude.{length, ◌≡◌};
     ghost use Rattle.wc_model.specs.Workspace.Edits.{setting_of};
-    ghost use Rattle.wc_core.specs.Features.{Each};
-    ghost use Rattle.wc_core.specs.Views.{KnownTicket, held};
+    ghost use Rattle.wc_core.specs.Views.{KnownTicket};
 
     ghost Value = { KnownTicket V };
 
-    ghost view = { λ t. record { session = t.session; name = t.name.value; at = t.at; inputs = setting_of t.inputs.value; stamp = t.stamp; had = held t.had; memory = t.memory; spare = length t.names.items } };
-
-    ghost invariant = { λ t. Each (λ n. n ≡ t.name.value) t.names.items };
-}
-
-impl<V> Ticket<V> {
-    /// Takes one of the copies of the name that were made when the ask was pinned.
-    pub(crate) fn take_name(&mut self) -> Text
-        requires { 0 < self.old.spare }
-        ensures name { result ≡ self.old.name }
-        ensures rest { self.old ≡ record self.new { spare = self.new.spare + 1 } }
-    {
-        self.names.take_last()
-    }
+    ghost view = { λ t. record { session = t.session; name = t.job.name.value; at = t.at; inputs = setting_of t.job.inputs.value; had = t.given; memory = t.memory } };
 }
 
 /// A work outside of the core, with the ask that it runs for.
@@ -53,53 +37,113 @@ pub struct Flight<W: Work> {
     pub(crate) work: W,
     pub(crate) ticket: Ticket<W::Value>,
     pub(crate) stamp: u64,
+    pub(crate) sessions: u32,
 }
 
 impl<W: Work> Model for Flight<W> {
-    ghost use Rattle.std.specs.Prelude.{◌≡◌, ◌<◌, ◌-◌, ◌^◌, []};
-    ghost use Rattle.wc_model.specs.Workspace.Closures.{requires_of};
+    ghost use Rattle.std.specs.Prelude.{◌<◌, ◌≤◌, ◌-◌, ◌^◌};
+    ghost use Rattle.wc_core.specs.Features.{HasRequired};
     ghost use Rattle.wc_core.specs.Views.{KnownFlight};
 
     ghost Value = { KnownFlight W.Value };
 
-    ghost view = { λ f. record { ticket = f.ticket; kind = W.kind_of f.work; stamp = f.stamp; runs = W.runs_of f.work } };
+    ghost view = { λ f. record { ticket = f.ticket; kind = W.kind_of f.work; stamp = f.stamp; runs = W.runs_of f.work; sessions = f.sessions } };
 
-    ghost invariant = { λ f. W.may_run f.work × (W.runs_of f.work < 2 ^ 64 - 1) × (requires_of W.described (W.kind_of f.work) ≡ []) };
+    ghost invariant = { λ f. (W.runs_of f.work < 2 ^ 64 - 1) × (f.sessions ≤ 64) × HasRequired W.described (λ k v. W.is_feature k f.ticket.inputs f.ticket.name v) (W.kind_of f.work) f.ticket.had };
 }
 
-/// A work that has run, with the value that it gave: one copy for the store and one for the ask.
+// What a run gave: the copy of the ask's own session, those of the others at their numbers, and what a new row of the
+// store needs.
+#[derive(Drop)]
+pub(crate) struct Gift<V> {
+    pub(crate) own: Arc<V>,
+    pub(crate) copies: Vec<Option<Arc<V>>>,
+    pub(crate) name: Vec<u8>,
+    pub(crate) row: Row<V>,
+}
+
+impl<V> Model for Gift<V> {
+    ghost use Rattle.wc_core.specs.Inner.Gifts.{KnownGift};
+
+    ghost Value = { KnownGift V };
+
+    ghost view = { λ g. record { own = g.own; copies = g.copies.items; name = g.name.items; row = g.row } };
+}
+
+/// A work that has run, with what it gave.
 #[derive(Drop)]
 pub struct Landed<W: Work> {
     pub(crate) work: W,
     pub(crate) ticket: Ticket<W::Value>,
     pub(crate) stamp: u64,
-    pub(crate) gave: Option<(Arc<W::Value>, Arc<W::Value>)>,
+    pub(crate) sessions: u32,
+    pub(crate) gave: Option<Gift<W::Value>>,
 }
 
 impl<W: Work> Model for Landed<W> {
-    ghost use Rattle.std.specs.Prelude.{◌≡◌};
-    ghost use Rattle.wc_core.specs.Views.{KnownLanded, given, AreCopies};
+    ghost use Rattle.std.specs.Prelude.{IfSome};
+    ghost use Rattle.wc_core.specs.Inner.Gifts.{IsGift, gift_value};
+    ghost use Rattle.wc_core.specs.Views.{KnownLanded};
 
     ghost Value = { KnownLanded W.Value };
 
-    ghost view = { λ l. record { ticket = l.ticket; kind = W.kind_of l.work; stamp = l.stamp; runs = W.runs_of l.work; gave = given l.gave } };
+    ghost view = { λ l. record { ticket = l.ticket; kind = W.kind_of l.work; stamp = l.stamp; runs = W.runs_of l.work; sessions = l.sessions; gave = gift_value l.gave } };
 
-    ghost invariant = { λ l. W.may_run l.work × AreCopies l.gave };
+    ghost invariant = { λ l. IfSome l.gave (IsGift l.sessions l.ticket.session l.ticket.name) };
 }
 
-// A value and a further copy of it.
-fn doubled<V: Drop>(value: Arc<V>) -> Option<(Arc<V>, Arc<V>)>
-    ensures value { IfSome (given result) (λ v. v ≡ value.value) }
-    ensures copies { AreCopies result }
+// A copy of a value for a session, but for the ask's own and for none.
+fn copy_for<V>(value: &Arc<V>, session: u32, own: u32) -> Result<Option<Arc<V>>, AllocError>
+    ensures { IfOk result (λ copy. IsCopyFor session own value.now.value copy) }
 {
-    match Arc::try_clone(&value) {
-        Ok(copy) => Some((value, copy)),
-        Err(AllocError) => None,
+    if session == 0 || session == own {
+        Ok(None)
+    } else {
+        Ok(Some(Arc::try_clone(value)?))
     }
 }
 
+fn copies_of<V: Drop>(
+    alloc: Global,
+    value: &Arc<V>,
+    sessions: u32,
+    own: u32,
+) -> Result<Vec<Option<Arc<V>>>, AllocError>
+    requires { sessions ≤ 64 }
+    ensures { IfOk result (λ copies. AreCopiesOf value.now.value (sessions + 1) own copies.items) }
+{
+    let mut copies = Vec::new(alloc);
+    for session in 0..sessions + 1 {
+        copies.push(copy_for(value, session, own)?)?;
+    }
+    Ok(copies)
+}
+
+fn gift_of<V: Drop>(
+    alloc: Global,
+    own: Arc<V>,
+    ticket: &Ticket<V>,
+    sessions: u32,
+) -> Result<Gift<V>, AllocError>
+    requires { sessions ≤ 64 }
+    ensures gift { IfOk result (IsGift sessions ticket.now.session ticket.now.name) }
+    ensures own { IfOk result (λ g. g.own ≡ own) }
+{
+    let copies = copies_of(alloc, &own, sessions, ticket.session)?;
+    let mut name = Vec::new(alloc);
+    name.extend_from_slice(ticket.job.name.items())?;
+    let row = Row::new(alloc)?;
+    Ok(Gift {
+        own,
+        copies,
+        name,
+        row,
+    })
+}
+
 impl<W: Work> Flight<W> {
-    /// Runs the work. Want of memory, also for a copy of the value, is kept in what landed.
+    /// Runs the work, and makes a copy of its value for each session. Want of memory, also for a copy, is kept in what
+    /// landed.
     pub fn run(self, alloc: Global) -> Landed<W>
         ensures ticket { result.ticket ≡ self.ticket }
         ensures work { (result.kind ≡ self.kind) × (result.stamp ≡ self.stamp) × (result.runs ≡ self.runs + 1) }
@@ -110,39 +154,17 @@ impl<W: Work> Flight<W> {
             mut work,
             ticket,
             stamp,
+            sessions,
         } = self;
-        let Ticket {
-            session,
-            name,
-            at,
-            inputs,
-            stamp: own,
-            had,
-            memory,
-            names,
-        } = ticket;
-        let job = Job { inputs, name };
-        let given = Given {
-            had: Vec::new(alloc),
-        };
-        let gave = match work.run(alloc, &job, &given) {
-            Ok(value) => doubled(value),
+        let gave = match work.run(alloc, &ticket.job, &ticket.given) {
+            Ok(value) => gift_of(alloc, value, &ticket, sessions).ok(),
             Err(AllocError) => None,
-        };
-        let ticket = Ticket {
-            session,
-            name: job.name,
-            at,
-            inputs: job.inputs,
-            stamp: own,
-            had,
-            memory,
-            names,
         };
         Landed {
             work,
             ticket,
             stamp,
+            sessions,
             gave,
         }
     }

@@ -6,6 +6,7 @@ ghost use Rattle.wc_model.specs.Workspace.Closures.{closure};
 ghost use Rattle.wc_model.specs.Workspace.Edits.{Setting, setting_of, AgreeOnAll};
 ghost use Rattle.wc_core.specs.Features.{HasRequired, Tells};
 
+use crate::given::Given;
 use std::alloc::{AllocError, Global};
 use std::sync::Arc;
 use wc_model::{Inputs, Kind, Outcome, Text};
@@ -17,17 +18,9 @@ pub struct Job {
     pub name: Arc<Text>,
 }
 
-/// The values that a run may use, by the place of their kind in the registry's order.
-#[derive(Debug, Drop)]
-pub struct Given<V> {
-    pub had: Vec<Option<Arc<V>>>,
-}
-
 /// A work computes the feature of one kind. `W::described` is the list of descriptions that its laws speak of.
 pub trait Work: Drop {
     type Value: Drop + Send + Sync;
-
-    ghost may_run: { Self → Type 0 };
 
     ghost kind_of: { Self → ℕ };
 
@@ -53,10 +46,8 @@ pub trait Work: Drop {
         job: &Job,
         given: &Given<Self::Value>,
     ) -> Result<Arc<Self::Value>, AllocError>
-        requires ready { may_run self.old }
         requires room { runs_of self.old < 2 ^ 64 - 1 }
-        requires given { HasRequired described (λ k v. is_feature k (setting_of job.now.inputs.value) job.now.name.value v) (kind_of self.old) given.now.had.items }
-        ensures ready { may_run self.new }
+        requires given { HasRequired described (λ k v. is_feature k (setting_of job.now.inputs.value) job.now.name.value v) (kind_of self.old) given.now }
         ensures kind { kind_of self.new ≡ kind_of self.old }
         ensures runs { runs_of self.new ≡ runs_of self.old + 1 }
         ensures feature { IfOk result (λ v. is_feature (kind_of self.old) (setting_of job.now.inputs.value) job.now.name.value (arc_value v)) };

@@ -11,13 +11,13 @@ use Rattle.wc_model.specs.declared.entries.Entry.TheVariants.{Pin, Start, Finish
 use Rattle.wc_model.specs.Workspace.Edits.{after}
 use Rattle.wc_model.specs.Workspace.History.{Chain}
 use Rattle.wc_model.specs.Workspace.States.{Opening}
-use Rattle.wc_core_next.specs.Fits.{Feature}
-use Rattle.wc_core_next.specs.Turns.{OutcomeIs}
-use Rattle.wc_core_next.specs.Views.{KnownFlight, KnownLanded, KnownTicket}
+use Rattle.wc_core.specs.Fits.{Feature}
+use Rattle.wc_core.specs.Turns.{OutcomeIs}
+use Rattle.wc_core.specs.Views.{KnownFlight, KnownLanded, KnownTicket}
 use Rattle.wc_pass.specs.Known.{KnownPass}
 use Rattle.wc_flight.specs.Calls.{Answers, Gains, IsRunOf, edits_seen, found_none}
 use Rattle.wc_flight.specs.Inner.Holds.{Departs, Finishes, IsUnderway, Lands, Waits}
-use Rattle.wc_core_next.proofs.TestLemmas.{or_false}
+use Rattle.wc_core.proofs.TestLemmas.{or_false}
 use Rattle.wc_flight.proofs.HoldLemmas.{gains_then}
 
 module _ {V : Type 0} (chain : Chain) (feature : Feature V) (own : TableId) (o : Opening) (first old : KnownPass) (name : List ℕ) (t : KnownTicket V) (under : IsUnderway feature own o first old name t) where

@@ -9,8 +9,8 @@ use Rattle.wc_model.specs.Workspace.History.{Chain, IsLegal, state_after}
 use Rattle.wc_model.specs.Workspace.States.{Opening, State, is_free}
 use Rattle.wc_model.proofs.RestLemmas.{nothing_out}
 use Rattle.wc_model.proofs.StepLemmas.{some_same}
-use Rattle.wc_core_next.specs.Answers.{AreRuns, LeavesFree, RunsNothing}
-use Rattle.wc_core_next.specs.Inner.Works.{is_of, runs_with}
+use Rattle.wc_core.specs.Answers.{AreRuns, LeavesFree, RunsNothing}
+use Rattle.wc_core.specs.Inner.Works.{is_of, runs_with}
 use Rattle.wc_pass.specs.Known.{KnownPass}
 use Rattle.wc_flight.specs.Calls.{IsReady}
 use Rattle.wc_flight.specs.Closing.{AreBack, IsWhole, of_kind}

@@ -15,13 +15,13 @@ use Rattle.wc_model.specs.Workspace.Entries.{entries_of, session_of}
 use Rattle.wc_model.specs.Workspace.History.{Chain, IsLegal, bound_kind}
 use Rattle.wc_model.specs.Workspace.States.{Opening, State, Ask, within_reach}
 use Rattle.wc_model.proofs.Replays.{edits_of-append, edits_of-snoc}
-use Rattle.wc_core_next.specs.declared.answers.Edited.{Edited}
-use Rattle.wc_core_next.specs.declared.answers.Edited.TheVariants.{Done, NoFact as NotLive}
-use Rattle.wc_core_next.specs.Answers as core
-use Rattle.wc_core_next.specs.Answers.{LeavesFree}
-use Rattle.wc_core_next.specs.Fits.{Feature, FitsFlight, FitsLanded, FitsTicket}
-use Rattle.wc_core_next.specs.Turns.{OutcomeIs, answers, first_missing, next_turn, starts, turn_for}
-use Rattle.wc_core_next.specs.Views.{Known, KnownFlight, KnownLanded, KnownTicket, ask_with}
+use Rattle.wc_core.specs.declared.answers.Edited.{Edited}
+use Rattle.wc_core.specs.declared.answers.Edited.TheVariants.{Done, NoFact as NotLive}
+use Rattle.wc_core.specs.Answers as core
+use Rattle.wc_core.specs.Answers.{LeavesFree}
+use Rattle.wc_core.specs.Fits.{Feature, FitsFlight, FitsLanded, FitsTicket}
+use Rattle.wc_core.specs.Turns.{OutcomeIs, answers, first_missing, next_turn, starts, turn_for}
+use Rattle.wc_core.specs.Views.{Known, KnownFlight, KnownLanded, KnownTicket, ask_with}
 use Rattle.wc_pass.specs.Known.{IsPrefix, Known as KnownPen, KnownPass}
 use Rattle.wc_flight.specs.Calls.{EditIs, Gains, IsReady, IsRunOf, Lists, edits_seen, found_none}
 use Rattle.wc_flight.specs.Inner.Holds.{Departs, Finishes, IsHeld, IsLocked, IsNew, IsUnderway, KeepsOwn, Lands, Waits}

@@ -5,7 +5,7 @@ use Rattle.wc_model.specs.declared.entries.Entry.{Entry}
 use Rattle.wc_model.specs.Workspace.Entries.{entries_of}
 use Rattle.wc_model.specs.Workspace.History.{Chain, IsLegal}
 use Rattle.wc_model.specs.Workspace.States.{Opening}
-use Rattle.wc_core_next.specs.Answers.{LeavesFree}
+use Rattle.wc_core.specs.Answers.{LeavesFree}
 use Rattle.wc_pass.specs.Known.{IsPrefix, KnownPass, longer}
 use Rattle.wc_flight.specs.Calls.{IsReady}
 use Rattle.wc_flight.proofs.OthersLemmas.{free_later}

@@ -9,9 +9,9 @@ use Rattle.wc_model.specs.Workspace.Entries.{session_of}
 use Rattle.wc_model.specs.declared.flow_facts.Fact.{Fact}
 use Rattle.wc_model.specs.Workspace.History.{Chain, opening_entries, opening_entry, opening_facts}
 use Rattle.wc_model.specs.Workspace.States.{Opening}
-use Rattle.wc_core_next.specs.Answers.{LeavesFree}
-use Rattle.wc_core_next.specs.Openings.{IsOpened}
-use Rattle.wc_core_next.specs.Views.{Known}
+use Rattle.wc_core.specs.Answers.{LeavesFree}
+use Rattle.wc_core.specs.Openings.{IsOpened}
+use Rattle.wc_core.specs.Views.{Known}
 use Rattle.wc_pass.specs.Known.{Known as KnownPen, KnownPass, new_passes}
 use Rattle.wc_flight.specs.Calls.{IsReady}
 use Rattle.wc_flight.specs.Openings.{AreFirst, ArePrepared, shown}

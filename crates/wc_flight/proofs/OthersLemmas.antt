@@ -16,9 +16,9 @@ use Rattle.wc_model.specs.Workspace.States.{Opening, State, Run, Ask, start, ask
 use Rattle.wc_model.proofs.Replays.{replay-append, throughout}
 use Rattle.wc_model.proofs.Sharing.{LeavesOthers, asked_other, inputs_stay, in_other, run_other}
 use Rattle.wc_model.proofs.StepLemmas.{allowed, answered, finished, if_some, some_same, started}
-use Rattle.wc_core_next.specs.Answers.{LeavesFree}
-use Rattle.wc_core_next.specs.Fits.{Feature, FitsLanded, FitsTicket, IsOpen}
-use Rattle.wc_core_next.specs.Views.{KnownLanded, KnownTicket, ask_with}
+use Rattle.wc_core.specs.Answers.{LeavesFree}
+use Rattle.wc_core.specs.Fits.{Feature, FitsLanded, FitsTicket, IsOpen}
+use Rattle.wc_core.specs.Views.{KnownLanded, KnownTicket, ask_with}
 use Rattle.wc_pass.specs.Known.{IsPrefix}
 
 -- One step.

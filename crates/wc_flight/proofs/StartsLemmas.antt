@@ -15,9 +15,9 @@ use Rattle.wc_model.specs.Workspace.Closures.{has_kind}
 use Rattle.wc_model.specs.Workspace.History.{Chain, IsLegal, step, replay, state_after, opened, opening_entries, opening_entry, opening_facts, after_edit, after_pin, after_answer, key_with, may_edit, may_refuse, may_pin, may_list, right_end}
 use Rattle.wc_model.specs.Workspace.States.{Opening, Key, State, Run, start, all_but_last, count_of, home_of, last_of, own_run, same_key, same_name, stamp_at, with_home, without_own}
 use Rattle.wc_model.proofs.StepLemmas.{IsFinish, IsStart, allowed, answered, finished, some_same, started}
-use Rattle.wc_core_next.specs.Answers.{AreRuns, RunsNothing}
-use Rattle.wc_core_next.specs.Inner.Works.{runs_with}
-use Rattle.wc_core_next.proofs.WorkLemmas.{home_names, home_other, home_same, reverse_cons}
+use Rattle.wc_core.specs.Answers.{AreRuns, RunsNothing}
+use Rattle.wc_core.specs.Inner.Works.{runs_with}
+use Rattle.wc_core.proofs.WorkLemmas.{home_names, home_other, home_same, reverse_cons}
 use Rattle.wc_flight.specs.Closing.{is_start, starts_of, works_for}
 use Rattle.wc_flight.proofs.OthersLemmas.{went_on}
 

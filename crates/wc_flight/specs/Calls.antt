@@ -13,10 +13,10 @@ use Rattle.wc_model.specs.Workspace.Edits.{after, edits_of}
 use Rattle.wc_model.specs.Workspace.Entries.{entries_of}
 use Rattle.wc_model.specs.Workspace.History.{Chain}
 use Rattle.wc_model.specs.Workspace.States.{Opening}
-use Rattle.wc_core_next.specs.declared.answers.Edited.{Edited}
-use Rattle.wc_core_next.specs.declared.answers.Edited.TheVariants.{Done, NoFact as NotLive}
-use Rattle.wc_core_next.specs.Answers.{LeavesFree}
-use Rattle.wc_core_next.specs.Turns.{OutcomeIs}
+use Rattle.wc_core.specs.declared.answers.Edited.{Edited}
+use Rattle.wc_core.specs.declared.answers.Edited.TheVariants.{Done, NoFact as NotLive}
+use Rattle.wc_core.specs.Answers.{LeavesFree}
+use Rattle.wc_core.specs.Turns.{OutcomeIs}
 use Rattle.wc_pass.specs.Known.{IsPrefix, KnownPass}
 
 -- A pass of the workspace. Its session is one of the workspace's, and what it has seen leaves that session

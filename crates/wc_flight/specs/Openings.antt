@@ -13,8 +13,8 @@ use Rattle.wc_model.specs.declared.machine.Hardware.{Hardware}
 use Rattle.wc_model.specs.Workspace.Hardware.{default_hardware}
 use Rattle.wc_model.specs.Workspace.History.{Chain, opening_entries}
 use Rattle.wc_model.specs.Workspace.States.{Opening}
-use Rattle.wc_core_next.specs.Openings.{opening_with}
-use Rattle.wc_core_next.specs.Views.{Known}
+use Rattle.wc_core.specs.Openings.{opening_with}
+use Rattle.wc_core.specs.Views.{Known}
 use Rattle.wc_pass.specs.Known.{Known as KnownPen, KnownPass}
 use Rattle.wc_flight.specs.Calls.{IsReady, StaysReady}
 use Rattle.wc_flight.specs.Inner.Holds.{IsLocked}

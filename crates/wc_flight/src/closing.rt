@@ -5,7 +5,7 @@ ghost use Rattle.wc_model.specs.Workspace.History.{IsLegal};
 
 use crate::locked::Locked;
 use crate::{Named, Workspace};
-use wc_core_next::Work;
+use wc_core::Work;
 use wc_model::Entry;
 use wc_pass::{Desk, Pass, Pen};
 

@@ -5,7 +5,7 @@ ghost use Rattle.wc_model.specs.Workspace.History.{IsLegal};
 use crate::Named;
 use crate::locked::{Locked, publish_last};
 use std::alloc::AllocError;
-use wc_core_next::{Edited, Work};
+use wc_core::{Edited, Work};
 use wc_model::Edit;
 use wc_pass::{Desk, Pass};
 

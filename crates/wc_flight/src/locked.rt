@@ -6,7 +6,7 @@ ghost use Rattle.wc_model.specs.Workspace.History.{IsLegal};
 use crate::Named;
 use std::alloc::AllocError;
 use std::marker::{Model, PhantomData};
-use wc_core_next::{Core, Work};
+use wc_core::{Core, Work};
 use wc_model::{Entry, Listing};
 use wc_pass::{Desk, Pass, Pen};
 

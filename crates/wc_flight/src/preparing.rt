@@ -1,12 +1,12 @@
 ghost use Rattle.std.specs.Prelude.{◌≡◌, ◌≤◌, ◌++◌, [], All, IfOk, map};
-ghost use Rattle.wc_core_next.specs.Openings.{IsStaffed};
+ghost use Rattle.wc_core.specs.Openings.{IsStaffed};
 ghost use Rattle.wc_flight.specs.Openings.{Opens, shown};
 ghost use Rattle.wc_model.specs.Workspace.Entries.{session_of};
 
 use std::alloc::{AllocError, Global};
 use std::marker::Model;
 use std::sync::Arc;
-use wc_core_next::{Core, Work};
+use wc_core::{Core, Work};
 use wc_model::{Entry, Fact, Hardware, Image};
 use wc_pass::{Desk, Pass, Pen};
 use wc_registry::Registry;

@@ -1,5 +1,5 @@
 ghost use Rattle.std.specs.Prelude.{◌≡◌};
-ghost use Rattle.wc_core_next.specs.Fits.{FitsLanded, FitsTicket};
+ghost use Rattle.wc_core.specs.Fits.{FitsLanded, FitsTicket};
 ghost use Rattle.wc_flight.specs.Calls.{IsReady};
 ghost use Rattle.wc_flight.specs.Inner.Holds.{IsHeld, Lands, NextAnswers, PinAnswers};
 ghost use Rattle.wc_model.specs.Workspace.History.{IsLegal};
@@ -7,7 +7,7 @@ ghost use Rattle.wc_model.specs.Workspace.History.{IsLegal};
 use crate::Named;
 use crate::locked::{Locked, publish_last};
 use std::alloc::AllocError;
-use wc_core_next::{Landed, Next, Ticket, Work};
+use wc_core::{Landed, Next, Ticket, Work};
 use wc_pass::{Desk, Pass};
 
 // The holds of an ask.

@@ -1,5 +1,5 @@
 ghost use Rattle.std.specs.Prelude.{◌≡◌};
-ghost use Rattle.wc_core_next.specs.Fits.{FitsLanded, FitsTicket};
+ghost use Rattle.wc_core.specs.Fits.{FitsLanded, FitsTicket};
 ghost use Rattle.wc_flight.specs.Calls.{AskAnswers, EditAnswers, IsReady, ListAnswers};
 ghost use Rattle.wc_flight.specs.Inner.Holds.{IsHeld, Lands, NextAnswers};
 ghost use Rattle.wc_flight.specs.Openings.{AreFirst};
@@ -10,7 +10,7 @@ use crate::{Named, Prepared};
 use std::alloc::{AllocError, Global};
 use std::marker::PhantomData;
 use std::sync::{Condvar, Mutex, Wait};
-use wc_core_next::{Edited, Landed, Next, Ticket, Work};
+use wc_core::{Edited, Landed, Next, Ticket, Work};
 use wc_model::{Asked, Edit, Listing};
 use wc_pass::{Desk, Pass};
 

@@ -1,6 +1,11 @@
+pub mod AloneLemmas
 pub mod AnswerLemmas
 pub mod AskLemmas
 pub mod CommandLemmas
+pub mod DrivingLemmas
+pub mod LackLemmas
 pub mod ListLemmas
 pub mod PartLemmas
+pub mod StaffLemmas
 pub mod TextLemmas
+pub mod WorkLemmas

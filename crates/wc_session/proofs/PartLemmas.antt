@@ -10,7 +10,7 @@ use Rattle.wc_model.specs.declared.entries.Ended.TheVariants as ended
 use Rattle.wc_model.specs.declared.entries.Entry.{Entry}
 use Rattle.wc_model.specs.Workspace.History.{Chain}
 use Rattle.wc_core.specs.Answers.{LeavesFree}
-use Rattle.wc_core.specs.Features.{Each}
+use Rattle.wc_session.specs.Each.{Each}
 use Rattle.wc_core.specs.Views.{Known}
 use Rattle.wc_session.specs.Ends.{GoesOn, HasLast}
 use Rattle.wc_session.specs.Parts.{AnswersLine, EndsAtLine, IsPart, KeepsCore, PartEnds, PartGains, Sends}

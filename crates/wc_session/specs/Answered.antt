@@ -2,7 +2,7 @@
 use Rattle.std.specs.Prelude.{◌≡◌, ℕ, List, [], ◌∷◌, ◌++◌, Option, None, Some}
 use Rattle.wc_base.specs.declared.faults.Fault.{Fault}
 use Rattle.wc_base.specs.declared.faults.Fault.TheVariants.{LongLine, NoFact, TooMuch}
-use Rattle.wc_core.specs.Features.{Each}
+use Rattle.wc_session.specs.Each.{Each}
 use Rattle.wc_io.specs.Lines.{LineResult, given, too_long, too_much}
 use Rattle.wc_model.specs.Workspace.Edits.{after}
 use Rattle.wc_model.specs.declared.elf_image.Image.{Image}

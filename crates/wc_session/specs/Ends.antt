@@ -1,6 +1,6 @@
 -- After which lines a session ends.
 use Rattle.std.specs.Prelude.{◌≡◌, List, [], ◌∷◌, ◌++◌, codes, Option, IfSome}
-use Rattle.wc_core.specs.Features.{Each}
+use Rattle.wc_session.specs.Each.{Each}
 use Rattle.wc_io.specs.Lines.{LineResult, given, too_long, too_much}
 use Rattle.wc_model.specs.declared.entries.Ended.{Ended}
 use Rattle.wc_model.specs.declared.entries.Ended.TheVariants as ended

@@ -1,5 +1,7 @@
+pub mod Alone
 pub mod Answered
 pub mod Commands
+pub mod Each
 pub mod Ends
 pub mod Parts
 pub mod Replies

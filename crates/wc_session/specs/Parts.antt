@@ -4,7 +4,7 @@ use Rattle.std.specs.Io.KnownBytes.{Appends}
 use Rattle.wc_base.specs.declared.troubles.Trouble.{Trouble}
 use Rattle.wc_base.specs.declared.troubles.Trouble.TheVariants.{Fault as Refused, Memory}
 use Rattle.wc_core.specs.Answers.{LeavesFree}
-use Rattle.wc_core.specs.Features.{Each}
+use Rattle.wc_session.specs.Each.{Each}
 use Rattle.wc_core.specs.Views.{Known}
 use Rattle.wc_io.specs.Causes.{Rose}
 use Rattle.wc_io.specs.Lines.{LineResult, given, too_much}

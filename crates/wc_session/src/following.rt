@@ -1,5 +1,6 @@
 ghost use Rattle.std.specs.Prelude.{◌≡◌, None, Some};
 ghost use Rattle.wc_core.specs.Answers.{LeavesFree};
+ghost use Rattle.wc_session.specs.Alone.{IsAlone};
 ghost use Rattle.wc_session.specs.Answered.{command_of};
 ghost use Rattle.wc_session.specs.Parts.{EndsAtCommand, Follows, KeepsCore};
 
@@ -52,7 +53,7 @@ fn change<W: Work>(core: &mut Core<W>, edit: Edit) -> Reply
 
 fn bound<W: Work>(alloc: Global, core: &mut Core<W>, name: Text) -> Reply
     requires free { LeavesFree core.old.opening core.old.history 1 }
-    requires alone { core.old.opening.sessions ≡ 1 }
+    requires alone { IsAlone core.old.opening }
     ensures kept { KeepsCore W.chain 1 core.old core.new }
     ensures reply { Follows 1 core.old.history core.new.history (Command.Bound name) (Some result) }
 {
@@ -76,7 +77,7 @@ fn list<W: Work>(core: &mut Core<W>) -> Reply
 /// Does what a command says.
 pub fn follow<W: Work>(alloc: Global, core: &mut Core<W>, command: Command) -> Answer
     requires free { LeavesFree core.old.opening core.old.history 1 }
-    requires alone { core.old.opening.sessions ≡ 1 }
+    requires alone { IsAlone core.old.opening }
     ensures kept { KeepsCore W.chain 1 core.old core.new }
     ensures reply { Follows 1 core.old.history core.new.history command result.reply }
     ensures end { EndsAtCommand command result.ended }

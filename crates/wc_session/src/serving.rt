@@ -2,6 +2,7 @@ ghost use Rattle.std.specs.Prelude.{◌≡◌, ◌≤◌, ◌+◌, false, None, 
 ghost use Rattle.wc_core.specs.Answers.{LeavesFree};
 ghost use Rattle.wc_io.specs.Causes.{Rose};
 ghost use Rattle.wc_io.specs.Lines.{given};
+ghost use Rattle.wc_session.specs.Alone.{IsAlone};
 ghost use Rattle.wc_session.specs.Parts.{AnswersLine, IsPart, KeepsCore, Sends};
 
 use crate::commands::read_command;
@@ -15,7 +16,7 @@ use wc_model::{Ended, Image};
 
 fn answer_line<W: Work>(alloc: Global, core: &mut Core<W>, image: &Image, line: &[u8]) -> Answer
     requires free { LeavesFree core.old.opening core.old.history 1 }
-    requires alone { core.old.opening.sessions ≡ 1 }
+    requires alone { IsAlone core.old.opening }
     ensures kept { KeepsCore W.chain 1 core.old core.new }
     ensures answer { AnswersLine 1 image.now core.old.history core.new.history (given line.now) result.reply result.ended }
 {
@@ -46,7 +47,7 @@ fn serve_next<W: Work, S: Source, K: Sink>(
     sink: &mut K,
 ) -> Option<Ended>
     requires free { LeavesFree core.old.opening core.old.history 1 }
-    requires alone { core.old.opening.sessions ≡ 1 }
+    requires alone { IsAlone core.old.opening }
     requires unread { IsFalse lines.old.ended }
     ensures kept { KeepsCore W.chain 1 core.old core.new }
     ensures part { IsPart 1 image.now core.old.history core.new.history lines.old.rest lines.new.rest (K.held sink.old) (K.held sink.new) result }
@@ -84,7 +85,7 @@ pub fn serve_all<W: Work, S: Source, K: Sink>(
     sink: &mut K,
 ) -> Ended
     requires free { LeavesFree core.old.opening core.old.history 1 }
-    requires alone { core.old.opening.sessions ≡ 1 }
+    requires alone { IsAlone core.old.opening }
     requires unread { IsFalse lines.old.ended }
     ensures kept { KeepsCore W.chain 1 core.old core.new }
     ensures part { IsPart 1 image.now core.old.history core.new.history lines.old.rest lines.new.rest (K.held sink.old) (K.held sink.new) (Some result) }

@@ -2,6 +2,7 @@ ghost use Rattle.std.specs.Prelude.{◌≡◌, ◌≤◌, IsFalse};
 ghost use Rattle.wc_core.specs.Answers.{LeavesFree};
 ghost use Rattle.wc_io.specs.Causes.{Rose};
 ghost use Rattle.wc_model.specs.Workspace.History.{IsLegal};
+ghost use Rattle.wc_session.specs.Alone.{IsAlone};
 ghost use Rattle.wc_session.specs.Served.{IsServed};
 
 use crate::serving::serve_all;
@@ -33,7 +34,7 @@ pub fn session<R: Wait, W: Work + Send, S: Source, K: Sink>(
     mut sink: K,
 ) -> SessionEnd<S, K>
     requires free { LeavesFree core.old.opening core.old.history 1 }
-    requires alone { core.old.opening.sessions ≡ 1 }
+    requires alone { IsAlone core.old.opening }
     requires unread { IsFalse lines.ended }
     ensures opening { core.new.opening ≡ core.old.opening }
     ensures legal { IsLegal W.chain core.old.opening core.old.history → IsLegal W.chain core.new.opening core.new.history }

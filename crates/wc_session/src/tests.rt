@@ -1,7 +1,7 @@
-ghost use Rattle.std.specs.Prelude.{◌≡◌, ◌∷◌, [], Some, IfOk, map};
+ghost use Rattle.std.specs.Prelude.{◌≡◌, ◌∷◌, [], Some, IfOk, All, map};
 ghost use Rattle.wc_core.specs.Answers.{LeavesFree};
-ghost use Rattle.wc_core.specs.Features.{Each};
-ghost use Rattle.wc_core.specs.Holds.{bound_alone};
+ghost use Rattle.wc_model.specs.Workspace.Kinds.{describe};
+ghost use Rattle.wc_session.specs.Alone.{IsAlone};
 
 use super::*;
 use std::alloc::{AllocError, Global};
@@ -10,8 +10,9 @@ use std::test::Fail;
 use wc_core::{Core, Given, Job, Work};
 use wc_io::{Lines, MemorySink, MemorySource};
 use wc_model::{Describe, Ended, Entry, Fact, Image, Kind, Outcome, Part, Table, default_hardware};
+use wc_registry::Registry;
 
-// A work whose bound is the cycles of the class `alu` and one more. The run numbered `failing` finds no memory.
+// A work whose value is the cycles of the class `alu` and one more. The run numbered `failing` finds no memory.
 #[derive(Drop)]
 struct Adder {
     kind: Kind,
@@ -23,16 +24,15 @@ impl Work for Adder {
     type Value = u64;
 
     ghost use Rattle.std.specs.Prelude.{◌≡◌, ◌∷◌, [], Option, Some};
-    ghost use Rattle.wc_core.specs.Holds.{bound_alone};
+    ghost use Rattle.wc_model.specs.Workspace.Kinds.{describe};
+    ghost use Rattle.wc_model.specs.declared.kinds.Part.TheVariants.{Cycles, Steer};
     ghost use Rattle.wc_model.specs.declared.values.Outcome.TheVariants.{Bound};
-
-    ghost may_run = { λ _. Unit {0} };
 
     ghost kind_of = { λ w. w.kind };
 
     ghost runs_of = { λ w. w.runs };
 
-    ghost described = { bound_alone ∷ [] };
+    ghost described = { describe 2 [] (Steer ∷ []) ∷ describe 11 (2 ∷ []) (Cycles ∷ []) ∷ [] };
 
     ghost is_feature = { λ _ _ _ _. Unit {0} };
 
@@ -73,41 +73,57 @@ impl Work for Adder {
     ghost tells = { λ _ _ _ _. tt };
 }
 
-fn bound_kind() -> Result<Kind, AllocError>
-    ensures { IfOk result (λ k. k ≡ 11) }
+fn kind(number: u8) -> Result<Kind, AllocError>
+    ensures { IfOk result (λ k. k ≡ number) }
 {
-    match Kind::new(11) {
+    match Kind::new(number) {
         Some(kind) => Ok(kind),
         None => Err(AllocError),
     }
 }
 
-fn describes(alloc: Global) -> Result<Vec<Describe>, AllocError>
-    ensures { IfOk result (λ ds. ds.items ≡ bound_alone ∷ []) }
+fn described(
+    alloc: Global,
+    number: u8,
+    required: Vec<Kind>,
+    part: Part,
+) -> Result<Describe, AllocError>
+    ensures { IfOk result (λ d. d ≡ describe number required.items (part ∷ [])) }
 {
     let mut reads = Vec::new(alloc);
-    reads.push(Part::Steer)?;
-    reads.push(Part::Loops)?;
-    reads.push(Part::Limits)?;
-    reads.push(Part::Cache)?;
-    reads.push(Part::Cycles)?;
-    let mut list = Vec::new(alloc);
-    list.push(Describe {
-        provides: bound_kind()?,
-        requires_: Table::new(Vec::new(alloc)),
+    reads.push(part)?;
+    Ok(Describe {
+        provides: kind(number)?,
+        requires_: Table::new(required),
         reads: Table::new(reads),
-    })?;
+    })
+}
+
+// A kind that reads what steers, and the bound, which requires it and reads the cycles.
+fn describes(alloc: Global) -> Result<Vec<Describe>, AllocError>
+    ensures { IfOk result (λ ds. ds.items ≡ describe 2 [] (Part.Steer ∷ []) ∷ describe 11 (2 ∷ []) (Part.Cycles ∷ []) ∷ []) }
+{
+    let mut required = Vec::new(alloc);
+    required.push(kind(2)?)?;
+    let mut list = Vec::new(alloc);
+    list.push(described(alloc, 2, Vec::new(alloc), Part::Steer)?)?;
+    list.push(described(alloc, 11, required, Part::Cycles)?)?;
     Ok(list)
 }
 
+// One work of each kind. That of the bound may fail.
 fn works_of(alloc: Global, failing: u64) -> Result<Vec<Adder>, AllocError>
-    ensures kinds { IfOk result (λ ws. map (λ w. w.kind) ws.items ≡ 11 ∷ []) }
-    ensures runs { IfOk result (λ ws. map (λ w. w.runs) ws.items ≡ 0 ∷ []) }
-    ensures ready { IfOk result (λ ws. Each (λ _. Unit {0}) ws.items) }
+    ensures kinds { IfOk result (λ ws. map (λ w. w.kind) ws.items ≡ 2 ∷ 11 ∷ []) }
+    ensures runs { IfOk result (λ ws. All (λ w. w.runs ≡ 0) ws.items) }
 {
     let mut works = Vec::new(alloc);
     works.push(Adder {
-        kind: bound_kind()?,
+        kind: kind(2)?,
+        runs: 0,
+        failing: 0,
+    })?;
+    works.push(Adder {
+        kind: kind(11)?,
         runs: 0,
         failing,
     })?;
@@ -122,21 +138,28 @@ fn empty_image(alloc: Global) -> Image {
     }
 }
 
+fn registry_of(alloc: Global) -> Result<Registry, AllocError>
+    ensures { IfOk result (λ r. r ≡ describe 2 [] (Part.Steer ∷ []) ∷ describe 11 (2 ∷ []) (Part.Cycles ∷ []) ∷ []) }
+{
+    match Registry::new(alloc, describes(alloc)?) {
+        Ok(registry) => Ok(registry),
+        Err(_fault) => Err(AllocError),
+    }
+}
+
+fn image_of(alloc: Global) -> Result<Arc<Image>, AllocError> {
+    Ok(Arc::new(alloc, empty_image(alloc))?)
+}
+
 fn core_of(alloc: Global, facts: Vec<Fact>, failing: u64) -> Result<Core<Adder>, AllocError>
     ensures free { IfOk result (λ c. LeavesFree c.opening c.history 1) }
-    ensures alone { IfOk result (λ c. c.opening.sessions ≡ 1) }
+    ensures alone { IfOk result (λ c. IsAlone c.opening) }
 {
-    let image = Arc::new(alloc, empty_image(alloc))?;
+    let image = image_of(alloc)?;
+    let registry = registry_of(alloc)?;
     let works = works_of(alloc, failing)?;
-    Core::new(
-        alloc,
-        image,
-        describes(alloc)?,
-        works,
-        default_hardware(),
-        facts,
-        1,
-    )
+    let core = Core::new(alloc, image, registry, works, default_hardware(), facts, 1)?;
+    Ok(core)
 }
 
 // A script whose reads give at most 7 bytes, and of which the reads with these numbers fail.
@@ -176,7 +199,7 @@ fn serve_over<R: Wait>(
     sink: MemorySink,
 ) -> Result<SessionEnd<MemorySource, MemorySink>, AllocError>
     requires free { LeavesFree core.old.opening core.old.history 1 }
-    requires alone { core.old.opening.sessions ≡ 1 }
+    requires alone { IsAlone core.old.opening }
 {
     let image = empty_image(alloc);
     match Lines::new(alloc, source) {
@@ -228,8 +251,28 @@ fn a_session_goes_on_after_want_of_memory(rt: HostRuntime) -> Result<(), Fail> {
         end.sink.held.as_slice(),
         b"memory\nbound f 2 at 1\n".as_slice()
     );
-    // the opening edit, then 4 entries for each ask
-    assert_eq!(rt; core.history().len(), 9);
+    // the opening edit, two runs of the first ask, and one of the second, each between a pin and an answer
+    assert_eq!(rt; core.history().len(), 11);
+    Ok(())
+}
+
+#[test]
+fn an_ask_runs_the_kinds_that_it_lacks(rt: HostRuntime) -> Result<(), Fail> {
+    let alloc = rt.alloc();
+    let mut core = core_of(alloc, Vec::new(alloc), 0)?;
+    let script =
+        "bound f\nbound f\nhardware {\"cycles\":{\"alu\":2}}\nbound f\nadd noreturn 0x8004;\nbound f\n";
+    let end = serve_over(
+        &rt,
+        alloc,
+        &mut core,
+        source_of(alloc, script, &[])?,
+        sink_of(alloc, &[])?,
+    )?;
+    let want = "bound f 2 at 1\nbound f 2 at 1\nedit 2\nbound f 3 at 2\nedit 3\nbound f 3 at 3\n";
+    assert_eq!(rt; end.sink.held.as_slice(), want.as_bytes());
+    // three edits, four pins and answers, and two runs, none, one and two
+    assert_eq!(rt; core.history().len(), 21);
     Ok(())
 }
 

@@ -12,7 +12,12 @@ pub enum SolveFault {
 }
 
 impl From<AllocError> for SolveFault {
-    fn from(error: AllocError) -> Self {
+    ghost use Rattle.std.specs.Prelude.{◌≡◌};
+    ghost use Rattle.wc_simplex.specs.declared.fault.SolveFault.TheVariants.{Memory};
+
+    ghost from_gives = { λ error fault. fault ≡ Memory error };
+
+    fn from(error: AllocError) -> SolveFault {
         SolveFault::Memory(error)
     }
 }

@@ -2,7 +2,9 @@ mod BoundAnswers
 mod CallLemmas
 mod LoadingLemmas
 mod OneAnswer
+mod OneWorkLemmas
 mod OpeningLemmas
+mod RegistryLemmas
 mod ReportLemmas
 mod ServeAnswers
 mod ServingLemmas

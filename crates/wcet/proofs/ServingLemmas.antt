@@ -1,5 +1,5 @@
 -- What a session leaves, from what opening, running and giving back say.
-use Rattle.std.proofs.Common.{◌≡◌, ℕ, suc, ◌+◌, ◌-◌, nat_lt, Bool, true, false, List, [], ◌∷◌, ◌++◌, map, length, take, get_or, Option, None, Some, IfSome, IsSome, Result, Ok, Err, refl, sym, ap, subst, ◌∙◌, inl, inr, arith}
+use Rattle.std.proofs.Common.{◌≡◌, ℕ, suc, ◌+◌, ◌-◌, nat_lt, Bool, true, false, List, [], ◌∷◌, ◌++◌, map, length, take, Option, None, Some, IfSome, IsSome, Result, Ok, Err, refl, sym, ap, subst, ◌∙◌, inl, inr, arith}
 use Rattle.std.specs.Prelude.{IsTrue, option_map}
 use Rattle.std.specs.Io.KnownBytes.{Appends}
 use Rattle.wc_io.specs.Causes.{Rose, HasCause}
@@ -14,13 +14,10 @@ use Rattle.wc_model.specs.declared.entries.Ended.TheVariants as ended
 use Rattle.wc_model.specs.declared.entries.Entry.{Entry}
 use Rattle.wc_model.specs.declared.entries.Entry.TheVariants as entry
 use Rattle.wc_model.specs.declared.inputs.Edit.{Edit}
-use Rattle.wc_model.specs.declared.values.Outcome.{Outcome}
 use Rattle.wc_model.specs.declared.values.Outcome.TheVariants as outcome
 use Rattle.wc_model.specs.Workspace.Edits.{edit_of, after_edits}
 use Rattle.wc_model.specs.Workspace.History.{EachRight, IsRight}
-use Rattle.wc_model.specs.Workspace.States.{Opening}
 use Rattle.wc_session.specs.Served.{Gains}
-use Rattle.wc_core.specs.Answers.{AreRuns}
 use Rattle.wcet.specs.declared.loading.Loaded.{Loaded}
 use Rattle.wcet.specs.Answers.{Shows}
 use Rattle.wcet.specs.Opening.{session_rows}
@@ -44,17 +41,6 @@ covered image edits (entry.List _ _) right = tt
 pub all_covered : (image : Image) (edits : List Edit) (es : List Entry) → EachRight chain image edits es → EachRight covers image edits es
 all_covered image edits [] right = tt
 all_covered image edits (e ∷ es) right = (covered image edits e right.0, all_covered image (edits ++ edit_of e) es right.1)
-
--- the runs of the one work that a core hands back
-one_of : {A : Type 0} (kind_of runs_of : A → ℕ) (works : List A) (d : A) (runs : ℕ) → map kind_of works ≡ 11 ∷ [] → runs ≡ runs_of (get_or works 0 d) → map runs_of works ≡ runs ∷ []
-one_of kind_of runs_of [] d runs one is = absurd (cc)
-one_of kind_of runs_of (w ∷ []) d runs one is = ap (λ (n : ℕ). n ∷ []) (sym is)
-one_of kind_of runs_of (w ∷ x ∷ ws) d runs one is = absurd (cc)
-
-pub left_runs : {A : Type 0} (kind_of runs_of : A → ℕ) (works : List A) (d : A) (runs : ℕ) (o now : Opening) (new history : List Entry) → now ≡ o → history ≡ new
-    → map kind_of works ≡ 11 ∷ [] → runs ≡ runs_of (get_or works 0 d) → AreRuns now new (map runs_of works) → AreRuns o history (runs ∷ [])
-left_runs kind_of runs_of works d runs o now new history same is one first are =
-    subst (λ (x : Opening). AreRuns x history (runs ∷ [])) same (subst (λ (h : List Entry). AreRuns now h (runs ∷ [])) (sym is) (subst (λ (ns : List ℕ). AreRuns now new ns) (one_of kind_of runs_of works d runs one first) are))
 
 -- Rows.
 

@@ -1,5 +1,5 @@
 -- The runs of the one work are the starts of a history in which no run is out.
-use Rattle.std.proofs.Common.{◌≡◌, ℕ, zero, suc, ◌+◌, ◌-◌, ◌<◌, ◌==◌, Bool, true, false, not, ◌&&◌, ◌||◌, is_none, List, [], ◌∷◌, ◌++◌, map, take, drop, length, Option, None, Some, refl, sym, ap, subst, ◌∙◌, arith, if◌then◌else◌, eqb-true, take-append-drop}
+use Rattle.std.proofs.Common.{◌≡◌, ℕ, zero, suc, ◌+◌, ◌-◌, ◌<◌, ◌==◌, Bool, true, false, not, ◌&&◌, ◌||◌, List, [], ◌∷◌, ◌++◌, map, take, drop, length, Option, None, Some, refl, sym, ap, subst, ◌∙◌, arith, if◌then◌else◌, eqb-true, take-append-drop}
 use Rattle.std.specs.Prelude.{All}
 use Rattle.std.specs.List.{list_all}
 use Rattle.std.proofs.lemmas.List.{take_more}
@@ -18,8 +18,8 @@ use Rattle.wc_model.specs.Workspace.History.{bound_kind, before, key_with, may_e
 use Rattle.wc_model.specs.Workspace.States.{Opening, Key, State, Run, start, home_of, with_home, last_of, all_but_last, own_run, without_own, same_key, stamp_at, count_of, within_reach, is_out}
 use Rattle.wc_model.proofs.StepLemmas.{some_same, allowed, started, finished, answered, IsStart}
 use Rattle.wc_core.specs.Answers.{RunsNothing, AreRuns}
-use Rattle.wc_core.specs.Features.{Each}
-use Rattle.wc_core.specs.Holds.{bound_alone, plain_opening}
+use Rattle.wc_session.specs.Each.{Each}
+use Rattle.wcet.specs.BoundAlone.{bound_alone, plain_opening}
 use Rattle.wcet.specs.ReportText.{IsOfKinds}
 use Rattle.wcet.specs.Starts.{starts_of, all_starts, bound_runs}
 
@@ -287,9 +287,9 @@ module _ (image : Image) (hardware : Hardware) (facts : List Fact) (history : Li
   pub kinds_known : All IsOfKinds history
   kinds_known = all_of_kinds history each
 
-  pub starts_known : (runs : ℕ) → AreRuns o history (runs ∷ []) → bound_runs runs ≡ all_starts history
+  pub starts_known : (runs : ℕ) → AreRuns o history ((bound_kind, runs) ∷ []) → bound_runs runs ≡ all_starts history
   starts_known runs are =
-      let one : runs ∷ [] ≡ all.0.runs = are rests.st rests.state ∙ home_runs rests.st.home all.0.runs bound_kind refl all.0.home_is in
+      let one : runs ∷ [] ≡ all.0.runs = are rests.st rests.state bound_kind ∙ home_runs rests.st.home all.0.runs bound_kind refl all.0.home_is in
       let started : runs ≡ all_in history =
       omega (arith, ap total one, all.0.count, ap flying rests.none, ap all_in (split o history begins), opened_in 2 facts (drop (opened o) history)) in
       let last : starts_of 11 history ≡ runs = bound_starts history each ∙ sym started in

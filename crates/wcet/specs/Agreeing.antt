@@ -27,10 +27,10 @@ use Rattle.wc_model.specs.Workspace.History.{bound_kind}
 use Rattle.wc_model.specs.Workspace.Phases.{After, BoundsOf, GraphAt, GraphOf, IsSystemResult, SystemOf, big, costly, fine, stated, stopped, went_on}
 use Rattle.wc_model.proofs.SteeringLemmas.{agreeing_code}
 use Rattle.wc_core.specs.Features.{Tells}
-use Rattle.wc_core.specs.Holds.{all_parts, bound_alone}
 use Rattle.wc_laws.proofs.AgreeingFeatureLemmas.{bounds_of, graphs, system_of}
 use Rattle.wc_laws.proofs.RelationLemmas.{Gives, after_gives}
 use Rattle.wc_model.specs.Workspace.Chain.{ChainResult, chain}
+use Rattle.wcet.specs.BoundAlone.{all_parts, bound_alone}
 use Rattle.wcet.specs.Feature.{IsFeature, outcome_of}
 
 module _ (a b : Setting) (image : a.image ≡ b.image) (steer : AgreeOn a b Steer) (loops : AgreeOn a b Loops) (limits : AgreeOn a b Limits) (cache : AgreeOn a b CachePart) (cycles : AgreeOn a b CyclesPart) where

@@ -1,5 +1,6 @@
 pub mod Agreeing
 pub mod Answers
+pub mod BoundAlone
 pub mod BoundCall
 pub mod Chained
 pub mod Feature

@@ -1,6 +1,5 @@
 -- The session of the command `serve`: one legal history, and the replies and bounds that are those of its entries.
 use Rattle.std.specs.Prelude.{◌≡◌, ℕ, Bool, true, false, List, [], ◌∷◌, ◌++◌, Option, Some, IfSome, IsSome, IsTrue}
-use Rattle.wc_core.specs.Holds.{plain_opening}
 use Rattle.wc_io.specs.Lines.{LineResult, lines_of}
 use Rattle.wc_io.specs.Rows.{Row, row_failed}
 use Rattle.wc_io.specs.Telling.{TellsFile}
@@ -11,6 +10,7 @@ use Rattle.wc_model.specs.Workspace.History.{Chain, EachRight, IsLegal, opening_
 use Rattle.wc_model.specs.Workspace.States.{Opening}
 use Rattle.wc_session.specs.Served.{IsServed}
 use Rattle.wcet.specs.declared.loading.Loaded.{Loaded}
+use Rattle.wcet.specs.BoundAlone.{plain_opening}
 use Rattle.wcet.specs.Chained.{covers}
 use Rattle.wc_model.specs.Workspace.Chain.{chain}
 use Rattle.wcet.specs.Files.{Holds, AreInputs, paths_of}

@@ -1,15 +1,31 @@
 ghost use Rattle.std.specs.Prelude.{◌≡◌, ◌∷◌, [], Some, IfOk};
-ghost use Rattle.wc_core.specs.Holds.{bound_alone};
+ghost use Rattle.wcet.specs.BoundAlone.{bound_alone};
 ghost use Rattle.wcet.specs.Feature.{outcome_of as outcome_of_bound};
 ghost use Rattle.wc_model.specs.Workspace.History.{bound_kind as bound_kind_of};
 
 use crate::chain::chain;
 use std::alloc::{AllocError, Global};
+use std::marker::PhantomData;
 use std::sync::Arc;
 use std::thread::Threads;
 use wc_base::Fault;
 use wc_core::{Given, Job, Work};
 use wc_model::{Describe, Kind, Outcome, Part, Table};
+use wc_registry::{Registry, RegistryFault};
+
+// The right of a runtime to start threads, without the runtime. It has no bytes, so that every thread may see it.
+#[derive(Drop)]
+struct Handle<R: Threads> {
+    of: PhantomData<R>,
+}
+
+impl<R: Threads> Threads for Handle<R> {}
+
+impl<R: Threads> Handle<R> {
+    fn of(_rt: &R) -> Handle<R> {
+        Handle { of: PhantomData }
+    }
+}
 
 /// The work of a workspace that computes bounds alone: it runs the whole chain, and holds the runtime for it.
 #[derive(Drop)]
@@ -51,14 +67,11 @@ impl<'a, R: Threads + Sync> Work for ChainWork<'a, R> {
     type Value = Result<u128, Fault>;
 
     ghost use Rattle.std.specs.Prelude.{◌∷◌, [], Some};
-    ghost use Rattle.std.specs.Thread.{IsSync};
-    ghost use Rattle.wc_core.specs.Holds.{bound_alone};
+    ghost use Rattle.wcet.specs.BoundAlone.{bound_alone};
     ghost use Rattle.wc_model.specs.Workspace.History.{bound_kind as bound_kind_of};
     ghost use Rattle.wcet.specs.Agreeing.{stable_feature, feature_tells};
     ghost use Rattle.wc_model.specs.Workspace.Chain.{chain as chain_of};
     ghost use Rattle.wcet.specs.Feature.{IsFeature, outcome_of as outcome_of_bound};
-
-    ghost may_run = { λ _. IsSync R.row };
 
     ghost kind_of = { λ _. bound_kind_of };
 
@@ -89,7 +102,7 @@ impl<'a, R: Threads + Sync> Work for ChainWork<'a, R> {
         self.runs += 1;
         let inputs = &job.inputs;
         let outcome = chain(
-            self.rt,
+            &Handle::of(self.rt),
             alloc,
             &inputs.image,
             &inputs.facts,
@@ -113,8 +126,8 @@ impl<'a, R: Threads + Sync> Work for ChainWork<'a, R> {
     ghost tells = { feature_tells };
 }
 
-/// The one description of such a workspace: the bound requires nothing and reads all parts.
-pub fn bound_describes(alloc: Global) -> Result<Vec<Describe>, AllocError>
+// The one description of such a workspace: the bound requires nothing and reads all parts.
+fn bound_describes(alloc: Global) -> Result<Vec<Describe>, AllocError>
     ensures { IfOk result (λ ds. ds.items ≡ bound_alone ∷ []) }
 {
     let mut reads = Vec::new(alloc);
@@ -130,4 +143,17 @@ pub fn bound_describes(alloc: Global) -> Result<Vec<Describe>, AllocError>
         reads: Table::new(reads),
     })?;
     Ok(list)
+}
+
+/// The registry of that one kind.
+pub fn bound_registry(alloc: Global) -> Result<Registry, AllocError>
+    ensures { IfOk result (λ r. r ≡ bound_alone ∷ []) }
+{
+    match Registry::new(alloc, bound_describes(alloc)?) {
+        Ok(registry) => Ok(registry),
+        Err(RegistryFault::Memory(error)) => Err(error),
+        Err(RegistryFault::Double(_)) => unreachable!(),
+        Err(RegistryFault::Missing(_)) => unreachable!(),
+        Err(RegistryFault::Cycle(_)) => unreachable!(),
+    }
 }

@@ -1,183 +1,145 @@
-ghost use Rattle.std.specs.Prelude.{ℕ, ◌≡◌, ◌≢◌, ◌≤◌, IfOk};
-ghost use Rattle.wc_core.specs.Answers.{LeavesFree, KeepsOthers};
-ghost use Rattle.wc_core.specs.Fits.{FitsTicket};
-
 use super::*;
-use wc_model::{Cache, StartState, Term};
 
-// Session 2 edits while a run of session 1 is out. Gives the answer of this ask, and that of the next one.
-fn edited_between<W: Work>(
-    core: &mut Core<W>,
+// Session 2 asks for the same name while the first run of session 1 is out, waits for it, and goes on first. Session 1
+// answers so, and so many runs start, the last ones those of all kinds.
+fn share_a_key(
     alloc: Global,
-    edit: Edit,
-) -> Result<(Outcome, Outcome), AllocError>
-    requires first { LeavesFree core.old.opening core.old.history 1 }
-    requires second { LeavesFree core.old.opening core.old.history 2 }
-    ensures first { IfOk result (λ _. LeavesFree core.new.opening core.new.history 1) }
-    ensures second { IfOk result (λ _. LeavesFree core.new.opening core.new.history 2) }
-{
-    let ticket = core.pin(1, b"f")?;
-    let Next::Run(flight) = core.next(ticket) else {
-        return Err(AllocError);
-    };
-    let landed = flight.run(alloc);
-    core.edit(2, edit)?;
-    let ticket = core.give(landed);
-    let asked = finish(core, alloc, ticket)?;
-    Ok((asked.outcome, ask(core, alloc, b"f")?.outcome))
+    stage: &mut Stage,
+    outcome: Outcome,
+    count: usize,
+) -> Result<bool, AllocError> {
+    stage.pin(1, b"f")?;
+    stage.pin(2, b"f")?;
+    stage.start(1)?;
+    let runner = stage.wait(2)?;
+    stage.land(alloc, 1)?;
+    stage.start(2)?;
+    stage.land(alloc, 2)?;
+    let one = stage.finish(alloc, 1)?;
+    let two = stage.finish(alloc, 2)?;
+    let kinds = starts(alloc, stage.history(), 0)?;
+    Ok(
+        runner == 1
+            && is_answer(one, 2, outcome)
+            && is_answer(two, 2, Outcome::Bound(1))
+            && kinds.len() == count
+            && kinds.as_slice().ends_with(ALL.as_slice()),
+    )
 }
 
-fn one_visit(alloc: Global) -> Result<Fact, AllocError> {
-    let mut left = Vec::new(alloc);
-    left.push(Term::Visits {
-        times: 1,
-        at: 0,
-        within: Table::new(Vec::new(alloc)),
-    })?;
-    let mut right = Vec::new(alloc);
-    right.push(Term::Constant(1))?;
-    Ok(Fact::Limit {
-        left: Table::new(left),
-        right: Table::new(right),
-    })
-}
-
-fn cached_hardware() -> Hardware {
-    Hardware {
-        cycles: plain_hardware(1).cycles,
-        cache: Some(Cache {
-            sets: 1,
-            ways: 2,
-            line: 16,
-            start: StartState::Any,
-        }),
+fn stage_for(alloc: Global, twice: bool, failing: u8) -> Result<Stage, AllocError> {
+    if twice {
+        stage_of_twice(alloc, 2)
+    } else {
+        stage_failing(alloc, failing, 2)
     }
 }
 
-#[test]
-fn an_edit_between_drops_what_it_touches(rt: HostRuntime) -> Result<(), Fail> {
-    let alloc = rt.alloc();
-    let mut core = core_of(alloc, 0)?;
-    // control flow, loops and limits: the ask has its own inputs, and the next one runs again on one fact more
-    let steer = Edit::Add(Fact::Noreturn { at: 0 });
-    assert_eq!(rt;
-        edited_between(&mut core, alloc, steer)?,
-        (Outcome::Bound(1001), Outcome::Bound(1_001_002))
-    );
-    assert_eq!(rt; core.edit(2, Edit::Drop(2))?, Edited::Done(3));
-    let loops = Edit::Add(Fact::Loop {
-        at: 0,
-        bound: Some(9),
-        within: Table::new(Vec::new(alloc)),
-    });
-    assert_eq!(rt;
-        edited_between(&mut core, alloc, loops)?,
-        (Outcome::Bound(1003), Outcome::Bound(1_001_004))
-    );
-    assert_eq!(rt; core.edit(2, Edit::Drop(4))?, Edited::Done(5));
-    let limits = Edit::Add(one_visit(alloc)?);
-    assert_eq!(rt;
-        edited_between(&mut core, alloc, limits)?,
-        (Outcome::Bound(1005), Outcome::Bound(1_001_006))
-    );
-    // the cycles, and the cache
-    assert_eq!(rt; core.edit(2, Edit::Drop(6))?, Edited::Done(7));
-    let cycles = Edit::Hardware(plain_hardware(2));
-    assert_eq!(rt;
-        edited_between(&mut core, alloc, cycles)?,
-        (Outcome::Bound(1007), Outcome::Bound(2008))
-    );
-    assert_eq!(rt;
-        core.edit(2, Edit::Hardware(plain_hardware(1)))?,
-        Edited::Done(9)
-    );
-    let cache = Edit::Hardware(cached_hardware());
-    assert_eq!(rt;
-        edited_between(&mut core, alloc, cache)?,
-        (Outcome::Bound(1009), Outcome::Bound(1010))
-    );
-    Ok(())
-}
+// Whether each kind has a second work, the kind whose first run finds no memory, what session 1 answers, and how many
+// runs start.
+const SHARED: [(bool, u8, Outcome, usize); 3] = [
+    (false, 0, Outcome::Bound(1), 11),
+    (true, 0, Outcome::Bound(1), 11),
+    (false, 1, Outcome::Memory, 12),
+];
 
 #[test]
-fn a_checksum_between_drops_nothing(rt: HostRuntime) -> Result<(), Fail> {
+fn two_sessions_share_a_key(rt: HostRuntime) -> Result<(), Fail> {
     let alloc = rt.alloc();
-    let mut core = core_of(alloc, 0)?;
-    let checksum = Edit::Add(Fact::Checksum {
-        name: Text::new(Vec::new(alloc)),
-        value: 7,
-    });
-    assert_eq!(rt;
-        edited_between(&mut core, alloc, checksum)?,
-        (Outcome::Bound(1001), Outcome::Bound(1001))
-    );
-    Ok(())
-}
-
-// Session 3 edits, where there is an edit, while an ask of another session is open.
-fn edited_beside<W: Work>(
-    core: &mut Core<W>,
-    edit: Option<Edit>,
-    held: &Ticket<W::Value>,
-) -> Result<(), AllocError>
-    requires free { LeavesFree core.old.opening core.old.history 3 }
-    requires fits { FitsTicket W.is_feature core.old.opening core.old.history held.now }
-    requires other { held.now.session ≢ 3 }
-    ensures { IfOk result (λ _. FitsTicket W.is_feature core.new.opening core.new.history held.now) }
-{
-    if let Some(edit) = edit {
-        core.edit(3, edit)?;
+    for (twice, failing, outcome, count) in SHARED {
+        let mut stage = stage_for(alloc, twice, failing)?;
+        assert!(rt; share_a_key(alloc, &mut stage, outcome, count)?);
     }
     Ok(())
 }
 
-// Sessions 1 and 2 ask for one name. While the run of session 1 is out, session 2 waits for it. Before it goes on,
-// session 3 may edit.
-fn shared_name<W: Work>(
-    core: &mut Core<W>,
-    alloc: Global,
-    edit: Option<Edit>,
-) -> Result<(u32, Outcome, Asked), AllocError>
-    requires { (s : ℕ) → 1 ≤ s → s ≤ 3 → LeavesFree core.old.opening core.old.history s }
-{
-    let one = core.pin(1, b"f")?;
-    let two = core.pin(2, b"f")?;
-    let Next::Run(flight) = core.next(one) else {
-        return Err(AllocError);
-    };
-    let Next::Busy(two, runner) = core.next(two) else {
-        return Err(AllocError);
-    };
-    let one = core.give(flight.run(alloc));
-    let first = finish(core, alloc, one)?;
-    edited_beside(core, edit, &two)?;
-    Ok((runner, first.outcome, finish(core, alloc, two)?))
+// Session 2 takes what session 1 stored before an edit of the cycles, and runs the touched kinds on its own inputs.
+fn takes_stored(alloc: Global, stage: &mut Stage) -> Result<bool, AllocError> {
+    stage.pin(1, b"f")?;
+    stage.pin(2, b"f")?;
+    let one = stage.finish(alloc, 1)?;
+    stage.edit(3, slower())?;
+    let before = stage.history().len();
+    let two = stage.finish(alloc, 2)?;
+    let started = have_started(alloc, stage, before, &[8, 9, 10, 11])?;
+    let dropped = drops(alloc, stage.history())?;
+    Ok(
+        is_answer(one, 2, Outcome::Bound(1))
+            && is_answer(two, 2, Outcome::Bound(1))
+            && started
+            && dropped.as_slice() == [8, 9, 10, 11].as_slice(),
+    )
 }
 
 #[test]
-fn a_waiting_ask_is_answered_from_the_store(rt: HostRuntime) -> Result<(), Fail> {
+fn a_waiting_ask_takes_what_another_stored(rt: HostRuntime) -> Result<(), Fail> {
     let alloc = rt.alloc();
-    let mut core = core_of(alloc, 0)?;
-    let (runner, first, second) = shared_name(&mut core, alloc, None)?;
-    assert_eq!(rt; runner, 1);
-    assert_eq!(rt; first, Outcome::Bound(1001));
-    assert_eq!(rt; second.outcome, Outcome::Bound(1001));
-    // one opening edit, two pins, one start and finish, two answers
-    assert_eq!(rt; core.history().len(), 7);
+    let mut stage = stage_of(alloc, 3)?;
+    assert!(rt; takes_stored(alloc, &mut stage)?);
+    Ok(())
+}
+
+// Sessions 1 and 2 run the first kind at once, for which session 3 waits; then each answers.
+fn run_at_once(alloc: Global, stage: &mut Stage) -> Result<bool, AllocError> {
+    stage.pin(1, b"f")?;
+    stage.pin(2, b"x")?;
+    stage.pin(3, b"y")?;
+    stage.start(1)?;
+    stage.start(2)?;
+    let runner = stage.wait(3)?;
+    stage.land(alloc, 1)?;
+    stage.start(3)?;
+    let started = have_started(alloc, stage, 0, &[1, 1, 1])?;
+    stage.land(alloc, 2)?;
+    stage.land(alloc, 3)?;
+    Ok(runner == 1 && started)
+}
+
+#[test]
+fn two_works_of_a_kind_run_at_once(rt: HostRuntime) -> Result<(), Fail> {
+    let alloc = rt.alloc();
+    let mut stage = stage_of_twice(alloc, 3)?;
+    assert!(rt; run_at_once(alloc, &mut stage)?);
+    for session in 1..4u32 {
+        let asked = stage.finish(alloc, session)?;
+        assert!(rt; is_answer(asked, 2, Outcome::Bound(1)));
+    }
+    Ok(())
+}
+
+// The second name is still stored, the first one isn't.
+fn asks_again(alloc: Global, stage: &mut Stage) -> Result<bool, AllocError> {
+    let before = stage.history().len();
+    stage.ask(alloc, 1, &[1])?;
+    let stored = stage.history().len() == before + 2;
+    stage.ask(alloc, 1, &[0])?;
+    let started = have_started(alloc, stage, before, ALL.as_slice())?;
+    Ok(stored && started)
+}
+
+#[test]
+fn the_earliest_of_33_names_is_computed_again(rt: HostRuntime) -> Result<(), Fail> {
+    let alloc = rt.alloc();
+    let mut stage = stage_of(alloc, 1)?;
+    for name in 0..33u8 {
+        stage.ask(alloc, 1, &[name])?;
+    }
+    assert!(rt; asks_again(alloc, &mut stage)?);
     Ok(())
 }
 
 #[test]
-fn a_waiting_ask_keeps_its_own_count(rt: HostRuntime) -> Result<(), Fail> {
+fn all_64_sessions_have_an_ask_open(rt: HostRuntime) -> Result<(), Fail> {
     let alloc = rt.alloc();
-    let mut core = core_of(alloc, 0)?;
-    let edit = Edit::Hardware(plain_hardware(2));
-    let (runner, first, second) = shared_name(&mut core, alloc, Some(edit))?;
-    assert_eq!(rt; runner, 1);
-    assert_eq!(rt; first, Outcome::Bound(1001));
-    // its value has left the store, so it runs again, on the inputs at its own count
-    assert_eq!(rt; second.outcome, Outcome::Bound(1002));
-    assert_eq!(rt; second.at, 1);
-    assert_eq!(rt; core.history().len(), 10);
+    let mut stage = stage_of(alloc, 64)?;
+    for session in 1..65u32 {
+        stage.pin(session, &[session as u8])?;
+    }
+    for session in 1..65u32 {
+        let asked = stage.finish(alloc, session)?;
+        assert!(rt; is_answer(asked, 2, Outcome::Bound(1)));
+    }
+    // the opening edits; of each session the pin, a start and a finish of each kind, and the answer
+    assert_eq!(rt; stage.history().len(), 2 + 64 * 24);
     Ok(())
 }

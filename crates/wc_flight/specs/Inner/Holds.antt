@@ -10,11 +10,11 @@ use Rattle.wc_model.specs.Workspace.Edits.{after}
 use Rattle.wc_model.specs.Workspace.Entries.{session_of}
 use Rattle.wc_model.specs.Workspace.History.{Chain, IsLegal}
 use Rattle.wc_model.specs.Workspace.States.{Opening}
-use Rattle.wc_core_next.specs.declared.tickets.Next.{Next}
-use Rattle.wc_core_next.specs.declared.tickets.Next.TheVariants.{Done, Run, Busy}
-use Rattle.wc_core_next.specs.Fits.{Feature, FitsTicket, FitsFlight, FitsLanded}
-use Rattle.wc_core_next.specs.Turns.{OutcomeIs}
-use Rattle.wc_core_next.specs.Views.{Known, KnownTicket, KnownFlight, KnownLanded, SameAsk}
+use Rattle.wc_core.specs.declared.tickets.Next.{Next}
+use Rattle.wc_core.specs.declared.tickets.Next.TheVariants.{Done, Run, Busy}
+use Rattle.wc_core.specs.Fits.{Feature, FitsTicket, FitsFlight, FitsLanded}
+use Rattle.wc_core.specs.Turns.{OutcomeIs}
+use Rattle.wc_core.specs.Views.{Known, KnownTicket, KnownFlight, KnownLanded, SameAsk}
 use Rattle.wc_pass.specs.Known.{Known as KnownPen, KnownPass}
 use Rattle.wc_flight.specs.Calls.{Gains, IsReady, IsRunOf, edits_seen, found_none}
 

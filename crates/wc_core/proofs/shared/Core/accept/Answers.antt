@@ -1,55 +1,34 @@
-use Rattle.std.proofs.Common.{◌≡◌, ◌≤◌, ◌+◌, [], ◌∷◌, ◌++◌, length, vec_capacity, arith, refl, ap, ◌∙◌}
+use Rattle.std.proofs.Common.{◌≡◌, ◌≤◌, ◌+◌, [], ◌∷◌, ◌++◌, length, vec_capacity, arith, refl, ap, subst, ◌∙◌}
 use Rattle.wc_model.specs.declared.entries.Entry.TheVariants.{Edit as EditEntry}
-use Rattle.wc_model.specs.Workspace.Closures.{touches_any}
-use Rattle.wc_model.specs.Workspace.Edits.{setting_of, edited}
-use Rattle.wc_core.specs.Holds.{all_parts}
-use Rattle.wc_core.proofs.Goings.{goes_accept, stable_alone}
+use Rattle.wc_model.specs.Workspace.Closures.{closure}
+use Rattle.wc_model.specs.Workspace.Edits.{AgreeOnAll, setting_of, touches}
+use Rattle.wc_core.specs.Inner.Touching.{AreTouched}
+use Rattle.wc_core.proofs.AcceptLemmas.{goes_accept, more_spare}
 use Rattle.wc_core.proofs.shared.Core.accept.Goals as goal
 
 pub invariant_of-self-2 : goal.invariant_of-self-2
 invariant_of-self-2 g c =
     let i = c.self.inside in
     let within : length i.history.items + 1 + i.owed ≤ vec_capacity c.reserve.new.self = omega (arith, c.in_ok-reserve.ensures.ok, c.reserve.ensures.len, i.history.ok) in
-    let found : setting_of c.deref.result.now ≡ setting_of i.inputs.value = ap setting_of c.deref.ensures in
-    let new : setting_of c.in_ok-inputs-2.inputs.value ≡ edited (i.count + 1) (setting_of i.inputs.value) c.args.edit = ap setting_of c.in_ok-inputs-2.ensures.ok ∙ c.in_ok-inputs.ensures ∙ ap (λ s. edited (i.count + 1) s c.args.edit) found in
     let entries = c.push_reserved.ensures.items ∙ ap (λ l. l ++ EditEntry c.args.session (i.count + 1) c.args.edit ∷ []) c.reserve.ensures.items in
-    let touched = c.is_touched-touched.ensures ∙ ap (λ s. touches_any all_parts s c.args.edit) (ap setting_of c.deref-2.ensures) in
-    let stable = stable_alone g.W.Work.is_feature g.W.Work.described c.self.invariant.4 g.met.W.Work.stable in
-    let goes = goes_accept _ _ _ _ _ _ c.push_reserved.new.self.items c.args.session (vec_capacity c.reserve.new.self) c.args.edit (setting_of c.in_ok-inputs-2.inputs.value) c.is_touched-touched.result c.later_stamp-self-inside.result c.empty_if.new.slots.items stable c.self.view_is c.self.invariant.0 c.requires.free c.requires.allowed entries within refl new touched c.later_stamp-self-inside.ensures c.empty_if.ensures.items in
-    rw (c.push_reserved.ensures.capacity, c.empty_if.ensures.capacity) (goes.core, c.self.invariant.1, c.self.invariant.2, c.self.invariant.3, c.self.invariant.4)
+    let touched = subst (λ s. AreTouched (λ part. touches part s c.args.edit) c.touched_by-touched.result) (ap setting_of c.deref.ensures) c.touched_by-touched.ensures in
+    let goes = goes_accept g.W.Work.chain g.W.Work.is_feature _ _ _ _ c.push_reserved.new.self.items c.args.session (vec_capacity c.reserve.new.self) c.args.edit c.touched_by-touched.result (setting_of c.edit_inputs.new.inputs.value) c.stamp.new.keys.items c.cut.new.self.lines (λ k a b name v agree f. g.met.W.Work.stable k a b name v (subst (λ ds. AgreeOnAll a b (closure ds k)) c.self.invariant.1 agree) f) c.self.view_is c.self.invariant.0 c.requires.free c.requires.allowed entries within refl touched c.in_ok-edit_inputs.ensures c.stamp.ensures c.cut.ensures.lines in
+    rw c.push_reserved.ensures.capacity (more_spare _ _ _ _ _ c.cut.new.self.spare goes.core c.cut.ensures.spare, c.self.invariant.1, c.self.invariant.2)
 
-pub returns-clause-legal : goal.returns-clause-legal
-returns-clause-legal g c =
+pub returns-clause-goes : goal.returns-clause-goes
+returns-clause-goes g c =
     let i = c.self.inside in
     let within : length i.history.items + 1 + i.owed ≤ vec_capacity c.reserve.new.self = omega (arith, c.in_ok-reserve.ensures.ok, c.reserve.ensures.len, i.history.ok) in
-    let found : setting_of c.deref.result.now ≡ setting_of i.inputs.value = ap setting_of c.deref.ensures in
-    let new : setting_of c.in_ok-inputs-2.inputs.value ≡ edited (i.count + 1) (setting_of i.inputs.value) c.args.edit = ap setting_of c.in_ok-inputs-2.ensures.ok ∙ c.in_ok-inputs.ensures ∙ ap (λ s. edited (i.count + 1) s c.args.edit) found in
     let entries = c.push_reserved.ensures.items ∙ ap (λ l. l ++ EditEntry c.args.session (i.count + 1) c.args.edit ∷ []) c.reserve.ensures.items in
-    let touched = c.is_touched-touched.ensures ∙ ap (λ s. touches_any all_parts s c.args.edit) (ap setting_of c.deref-2.ensures) in
-    let stable = stable_alone g.W.Work.is_feature g.W.Work.described c.self.invariant.4 g.met.W.Work.stable in
-    let goes = goes_accept _ _ _ _ _ _ c.push_reserved.new.self.items c.args.session (vec_capacity c.reserve.new.self) c.args.edit (setting_of c.in_ok-inputs-2.inputs.value) c.is_touched-touched.result c.later_stamp-self-inside.result c.empty_if.new.slots.items stable c.self.view_is c.self.invariant.0 c.requires.free c.requires.allowed entries within refl new touched c.later_stamp-self-inside.ensures c.empty_if.ensures.items in
-    goes.legal
+    let touched = subst (λ s. AreTouched (λ part. touches part s c.args.edit) c.touched_by-touched.result) (ap setting_of c.deref.ensures) c.touched_by-touched.ensures in
+    let goes = goes_accept g.W.Work.chain g.W.Work.is_feature _ _ _ _ c.push_reserved.new.self.items c.args.session (vec_capacity c.reserve.new.self) c.args.edit c.touched_by-touched.result (setting_of c.edit_inputs.new.inputs.value) c.stamp.new.keys.items c.cut.new.self.lines (λ k a b name v agree f. g.met.W.Work.stable k a b name v (subst (λ ds. AgreeOnAll a b (closure ds k)) c.self.invariant.1 agree) f) c.self.view_is c.self.invariant.0 c.requires.free c.requires.allowed entries within refl touched c.in_ok-edit_inputs.ensures c.stamp.ensures c.cut.ensures.lines in
+    goes.advances
 
 pub returns-clause-free : goal.returns-clause-free
 returns-clause-free g c =
     let i = c.self.inside in
     let within : length i.history.items + 1 + i.owed ≤ vec_capacity c.reserve.new.self = omega (arith, c.in_ok-reserve.ensures.ok, c.reserve.ensures.len, i.history.ok) in
-    let found : setting_of c.deref.result.now ≡ setting_of i.inputs.value = ap setting_of c.deref.ensures in
-    let new : setting_of c.in_ok-inputs-2.inputs.value ≡ edited (i.count + 1) (setting_of i.inputs.value) c.args.edit = ap setting_of c.in_ok-inputs-2.ensures.ok ∙ c.in_ok-inputs.ensures ∙ ap (λ s. edited (i.count + 1) s c.args.edit) found in
     let entries = c.push_reserved.ensures.items ∙ ap (λ l. l ++ EditEntry c.args.session (i.count + 1) c.args.edit ∷ []) c.reserve.ensures.items in
-    let touched = c.is_touched-touched.ensures ∙ ap (λ s. touches_any all_parts s c.args.edit) (ap setting_of c.deref-2.ensures) in
-    let stable = stable_alone g.W.Work.is_feature g.W.Work.described c.self.invariant.4 g.met.W.Work.stable in
-    let goes = goes_accept _ _ _ _ _ _ c.push_reserved.new.self.items c.args.session (vec_capacity c.reserve.new.self) c.args.edit (setting_of c.in_ok-inputs-2.inputs.value) c.is_touched-touched.result c.later_stamp-self-inside.result c.empty_if.new.slots.items stable c.self.view_is c.self.invariant.0 c.requires.free c.requires.allowed entries within refl new touched c.later_stamp-self-inside.ensures c.empty_if.ensures.items in
+    let touched = subst (λ s. AreTouched (λ part. touches part s c.args.edit) c.touched_by-touched.result) (ap setting_of c.deref.ensures) c.touched_by-touched.ensures in
+    let goes = goes_accept g.W.Work.chain g.W.Work.is_feature _ _ _ _ c.push_reserved.new.self.items c.args.session (vec_capacity c.reserve.new.self) c.args.edit c.touched_by-touched.result (setting_of c.edit_inputs.new.inputs.value) c.stamp.new.keys.items c.cut.new.self.lines (λ k a b name v agree f. g.met.W.Work.stable k a b name v (subst (λ ds. AgreeOnAll a b (closure ds k)) c.self.invariant.1 agree) f) c.self.view_is c.self.invariant.0 c.requires.free c.requires.allowed entries within refl touched c.in_ok-edit_inputs.ensures c.stamp.ensures c.cut.ensures.lines in
     goes.free
-
-pub returns-clause-others : goal.returns-clause-others
-returns-clause-others g c =
-    let i = c.self.inside in
-    let within : length i.history.items + 1 + i.owed ≤ vec_capacity c.reserve.new.self = omega (arith, c.in_ok-reserve.ensures.ok, c.reserve.ensures.len, i.history.ok) in
-    let found : setting_of c.deref.result.now ≡ setting_of i.inputs.value = ap setting_of c.deref.ensures in
-    let new : setting_of c.in_ok-inputs-2.inputs.value ≡ edited (i.count + 1) (setting_of i.inputs.value) c.args.edit = ap setting_of c.in_ok-inputs-2.ensures.ok ∙ c.in_ok-inputs.ensures ∙ ap (λ s. edited (i.count + 1) s c.args.edit) found in
-    let entries = c.push_reserved.ensures.items ∙ ap (λ l. l ++ EditEntry c.args.session (i.count + 1) c.args.edit ∷ []) c.reserve.ensures.items in
-    let touched = c.is_touched-touched.ensures ∙ ap (λ s. touches_any all_parts s c.args.edit) (ap setting_of c.deref-2.ensures) in
-    let stable = stable_alone g.W.Work.is_feature g.W.Work.described c.self.invariant.4 g.met.W.Work.stable in
-    let goes = goes_accept _ _ _ _ _ _ c.push_reserved.new.self.items c.args.session (vec_capacity c.reserve.new.self) c.args.edit (setting_of c.in_ok-inputs-2.inputs.value) c.is_touched-touched.result c.later_stamp-self-inside.result c.empty_if.new.slots.items stable c.self.view_is c.self.invariant.0 c.requires.free c.requires.allowed entries within refl new touched c.later_stamp-self-inside.ensures c.empty_if.ensures.items in
-    goes.others

@@ -1,86 +1,95 @@
-use Rattle.std.proofs.Common.{◌≡◌, List, refl, arith, sym, ap, subst, ◌∙◌}
-use Rattle.wc_core.specs.Features.{Each}
+use Rattle.std.proofs.Common.{◌≡◌, ℕ, ◌+◌, ◌-◌, ◌<◌, ◌≤◌, [], ◌∷◌, ◌++◌, length, vec_capacity, arith, sym, ap, ap₂, subst, ◌∙◌}
+use Rattle.wc_model.specs.declared.entries.Entry.TheVariants.{Start}
+use Rattle.wc_core.specs.Inner.Seats.{seat_at}
+use Rattle.wc_core.specs.Inner.Works.{run_with}
 use Rattle.wc_core.specs.Views.{KnownTicket}
-use Rattle.wc_core.proofs.Departures.{at_home, start_entries, start_all, each_last, each_init, requires_none}
-use Rattle.wc_core.proofs.Openings.{one_work}
-use Rattle.wc_core.proofs.Turning.{room_all}
+use Rattle.wc_core.proofs.NameLemmas.{IsTakenFrom}
+use Rattle.wc_core.proofs.SendLemmas.{can, runs_few, sends, some_left, there}
 use Rattle.wc_core.proofs.shared.Core.depart.Goals as goal
+
+pub take_name-name-requires-clause-names : goal.take_name-name-requires-clause-names
+take_name-name-requires-clause-names g c =
+    let i = c.self.inside in
+    let same : c.ticket.inside.session ≡ c.args.ticket.session = ap (λ (t : KnownTicket g.row.W-Value.Denot). t.session) c.ticket.view_is in
+    let taken = subst (λ s. IsTakenFrom s i.seats c.take_name-going.new.self c.take_name-going.result) same c.take_name-going.ensures in
+    subst (λ s. 0 < length (seat_at s c.take_name-going.new.self).names) (sym same)
+    (some_left g.W.Work.chain g.W.Work.is_feature _ _ _ _ c.self.view_is c.self.invariant.0 c.args.ticket c.requires.fits c.args.kind c.args.stamp c.requires.step c.take_name-going.result c.take_name-going.new.self taken)
+
+pub send-work-requires-after_bounds : goal.send-work-requires-after_bounds
+send-work-requires-after_bounds g c κs within = there g.W.Work.chain g.W.Work.is_feature _ _ _ _ c.self.view_is c.self.invariant.0 c.args.ticket c.requires.fits c.args.kind c.args.stamp c.requires.step
+
+pub push_reserved-requires : goal.push_reserved-requires
+push_reserved-requires g c =
+    let ready = can g.W.Work.chain g.W.Work.is_feature _ _ _ _ c.self.view_is c.self.invariant.0 c.args.ticket c.requires.fits c.args.kind c.args.stamp c.requires.step in
+    omega (arith, ready.some, ready.owes, ready.room)
+
+pub overflow_sub-self : goal.overflow_sub-self
+overflow_sub-self g c =
+    let ready = can g.W.Work.chain g.W.Work.is_feature _ _ _ _ c.self.view_is c.self.invariant.0 c.args.ticket c.requires.fits c.args.kind c.args.stamp c.requires.step in
+    omega (arith, ready.some, ready.owes)
 
 pub invariant_of-self : goal.invariant_of-self
 invariant_of-self g c =
     let i = c.self.inside in
-    let E : List g.row.W.Denot → Type 0 = λ l. Each (λ (w : g.row.W.Denot). (g.W.Work.kind_of w ≡ 11) × g.W.Work.may_run w) l in
-    let each = subst E c.take_last-work.ensures.items c.self.invariant.1 in
-    let mine = each_last (λ (w : g.row.W.Denot). (g.W.Work.kind_of w ≡ 11) × g.W.Work.may_run w) c.take_last-work.new.self.items c.take_last-work.result each in
-    let session = ap (λ (x : KnownTicket g.row.W-Value.Denot). x.session) c.ticket.view_is in
-    let stamp = ap (λ (x : KnownTicket g.row.W-Value.Denot). x.stamp) c.ticket.view_is ∙ sym (ap (λ (x : KnownTicket g.row.W-Value.Denot). x.stamp) c.take_name-name.ensures.rest) in
-    let entries = start_entries _ i.history.items _ _ (g.W.Work.kind_of c.take_last-work.result) _ _ c.args.ticket c.take_name-name.new.self c.push_reserved.ensures.items session c.kind.ensures c.take_name-name.ensures.name c.take_name-name.ensures.rest in
-    let goes = start_all _ _ _ _ _ c.args.ticket c.take_name-name.new.self _ c.push_reserved.new.self.items g.W.Work.runs_of i.works.items c.take_last-work.new.self.items c.take_last-work.result (g.W.Work.kind_of c.take_last-work.result) c.ticket.inside.stamp c.ticket.inside.session c.self.view_is c.self.invariant.0 c.requires.fits c.requires.turn refl c.take_last-work.ensures.items mine.0 stamp session c.take_name-name.ensures.rest entries in
-    let rest = each_init (λ (w : g.row.W.Denot). (g.W.Work.kind_of w ≡ 11) × g.W.Work.may_run w) c.take_last-work.new.self.items c.take_last-work.result each in
-    rw (c.push_reserved.ensures.capacity, c.take_last-work.ensures.capacity) (goes.core, rest, c.self.invariant.2, c.self.invariant.3, c.self.invariant.4)
+    let runs = g.W.Work.runs_of c.send-work.result in
+    let back : c.ticket.inside.session ≡ c.args.ticket.session = ap (λ (t : KnownTicket g.row.W-Value.Denot). t.session) c.ticket.view_is in
+    let again : c.ticket-2.inside.session ≡ c.args.ticket.session = ap (λ (t : KnownTicket g.row.W-Value.Denot). t.session) (c.ticket-2.view_is ∙ c.pull.ensures.ticket) in
+    let first = subst (λ s. IsTakenFrom s i.seats c.take_name-going.new.self c.take_name-going.result) back c.take_name-going.ensures in
+    let second = subst (λ s. IsTakenFrom s c.take_name-going.new.self c.take_name-name.new.self c.take_name-name.result) back c.take_name-name.ensures in
+    let entries = c.push_reserved.ensures.items ∙ ap (λ s. i.history.items ++ Start s c.args.kind c.take_name-name.result c.args.stamp ∷ []) again in
+    let keys = c.keys.ensures ∙ ap (λ s. (seat_at s i.seats).keys) back in
+    let ready = can g.W.Work.chain g.W.Work.is_feature _ _ _ _ c.self.view_is c.self.invariant.0 c.args.ticket c.requires.fits c.args.kind c.args.stamp c.requires.step in
+    let less : i.owed - 1 + 1 ≡ i.owed = omega (arith, ready.some, ready.owes) in
+    let sent = sends g.W.Work.chain g.W.Work.is_feature _ _ _ _ c.self.view_is c.self.invariant.0 c.args.ticket c.requires.fits c.args.kind c.args.stamp c.requires.step c.take_name-going.result c.take_name-name.result c.take_name-going.new.self c.take_name-name.new.self first second
+    c.send-work.new.self.home runs c.send-work.ensures.sent.taken c.pull.ensures.wide c.push_reserved.new.self.items c.keys.result.now (i.owed - 1) (vec_capacity i.history) i.store.spare entries keys less (omega arith) (omega (arith, less, c.self.invariant.0.parts.stored)) in
+    let gone = c.send-work.ensures.sent.out ∙ ap (λ s. i.works.out ++ run_with s c.args.kind c.take_name-going.result c.args.stamp runs ∷ []) again in
+    rw (c.push_reserved.ensures.capacity, c.pull.ensures.lines, c.pull.ensures.spare, gone) (sent.core, c.self.invariant.1, c.self.invariant.2)
 
 pub invariant_of-result : goal.invariant_of-result
 invariant_of-result g c =
     let i = c.self.inside in
-    let E : List g.row.W.Denot → Type 0 = λ l. Each (λ (w : g.row.W.Denot). (g.W.Work.kind_of w ≡ 11) × g.W.Work.may_run w) l in
-    let each = subst E c.take_last-work.ensures.items c.self.invariant.1 in
-    let mine = each_last (λ (w : g.row.W.Denot). (g.W.Work.kind_of w ≡ 11) × g.W.Work.may_run w) c.take_last-work.new.self.items c.take_last-work.result each in
-    let session = ap (λ (x : KnownTicket g.row.W-Value.Denot). x.session) c.ticket.view_is in
-    let stamp = ap (λ (x : KnownTicket g.row.W-Value.Denot). x.stamp) c.ticket.view_is ∙ sym (ap (λ (x : KnownTicket g.row.W-Value.Denot). x.stamp) c.take_name-name.ensures.rest) in
-    let entries = start_entries _ i.history.items _ _ (g.W.Work.kind_of c.take_last-work.result) _ _ c.args.ticket c.take_name-name.new.self c.push_reserved.ensures.items session c.kind.ensures c.take_name-name.ensures.name c.take_name-name.ensures.rest in
-    let goes = start_all _ _ _ _ _ c.args.ticket c.take_name-name.new.self _ c.push_reserved.new.self.items g.W.Work.runs_of i.works.items c.take_last-work.new.self.items c.take_last-work.result (g.W.Work.kind_of c.take_last-work.result) c.ticket.inside.stamp c.ticket.inside.session c.self.view_is c.self.invariant.0 c.requires.fits c.requires.turn refl c.take_last-work.ensures.items mine.0 stamp session c.take_name-name.ensures.rest entries in
-    (mine.1, omega (arith, goes.few, goes.within, i.history.small), requires_none g.W.Work.described (g.W.Work.kind_of c.take_last-work.result) c.self.invariant.4 mine.0)
+    let runs = g.W.Work.runs_of c.send-work.result in
+    let back : c.ticket.inside.session ≡ c.args.ticket.session = ap (λ (t : KnownTicket g.row.W-Value.Denot). t.session) c.ticket.view_is in
+    let again : c.ticket-2.inside.session ≡ c.args.ticket.session = ap (λ (t : KnownTicket g.row.W-Value.Denot). t.session) (c.ticket-2.view_is ∙ c.pull.ensures.ticket) in
+    let first = subst (λ s. IsTakenFrom s i.seats c.take_name-going.new.self c.take_name-going.result) back c.take_name-going.ensures in
+    let second = subst (λ s. IsTakenFrom s c.take_name-going.new.self c.take_name-name.new.self c.take_name-name.result) back c.take_name-name.ensures in
+    let entries = c.push_reserved.ensures.items ∙ ap (λ s. i.history.items ++ Start s c.args.kind c.take_name-name.result c.args.stamp ∷ []) again in
+    let keys = c.keys.ensures ∙ ap (λ s. (seat_at s i.seats).keys) back in
+    let ready = can g.W.Work.chain g.W.Work.is_feature _ _ _ _ c.self.view_is c.self.invariant.0 c.args.ticket c.requires.fits c.args.kind c.args.stamp c.requires.step in
+    let less : i.owed - 1 + 1 ≡ i.owed = omega (arith, ready.some, ready.owes) in
+    let sent = sends g.W.Work.chain g.W.Work.is_feature _ _ _ _ c.self.view_is c.self.invariant.0 c.args.ticket c.requires.fits c.args.kind c.args.stamp c.requires.step c.take_name-going.result c.take_name-name.result c.take_name-going.new.self c.take_name-name.new.self first second
+    c.send-work.new.self.home runs c.send-work.ensures.sent.taken c.pull.ensures.wide c.push_reserved.new.self.items c.keys.result.now (i.owed - 1) (vec_capacity i.history) i.store.spare entries keys less (omega arith) (omega (arith, less, c.self.invariant.0.parts.stored)) in
+    let few : runs ≤ length i.history.items = runs_few g.W.Work.chain g.W.Work.is_feature _ _ _ _ c.self.view_is c.self.invariant.0 c.args.ticket c.requires.fits c.args.kind c.args.stamp c.requires.step c.send-work.new.self.home runs c.send-work.ensures.sent.taken in
+    (omega (arith, few, i.history.ok, i.history.small), c.self.invariant.2, rw (c.send-work.ensures.kind, c.pull.ensures.ticket, sym c.self.invariant.1) sent.required)
 
-pub returns-clause-legal : goal.returns-clause-legal
-returns-clause-legal g c =
+pub returns-clause-started : goal.returns-clause-started
+returns-clause-started g c =
     let i = c.self.inside in
-    let E : List g.row.W.Denot → Type 0 = λ l. Each (λ (w : g.row.W.Denot). (g.W.Work.kind_of w ≡ 11) × g.W.Work.may_run w) l in
-    let each = subst E c.take_last-work.ensures.items c.self.invariant.1 in
-    let mine = each_last (λ (w : g.row.W.Denot). (g.W.Work.kind_of w ≡ 11) × g.W.Work.may_run w) c.take_last-work.new.self.items c.take_last-work.result each in
-    let session = ap (λ (x : KnownTicket g.row.W-Value.Denot). x.session) c.ticket.view_is in
-    let stamp = ap (λ (x : KnownTicket g.row.W-Value.Denot). x.stamp) c.ticket.view_is ∙ sym (ap (λ (x : KnownTicket g.row.W-Value.Denot). x.stamp) c.take_name-name.ensures.rest) in
-    let entries = start_entries _ i.history.items _ _ (g.W.Work.kind_of c.take_last-work.result) _ _ c.args.ticket c.take_name-name.new.self c.push_reserved.ensures.items session c.kind.ensures c.take_name-name.ensures.name c.take_name-name.ensures.rest in
-    let goes = start_all _ _ _ _ _ c.args.ticket c.take_name-name.new.self _ c.push_reserved.new.self.items g.W.Work.runs_of i.works.items c.take_last-work.new.self.items c.take_last-work.result (g.W.Work.kind_of c.take_last-work.result) c.ticket.inside.stamp c.ticket.inside.session c.self.view_is c.self.invariant.0 c.requires.fits c.requires.turn refl c.take_last-work.ensures.items mine.0 stamp session c.take_name-name.ensures.rest entries in
-    goes.legal
+    let runs = g.W.Work.runs_of c.send-work.result in
+    let back : c.ticket.inside.session ≡ c.args.ticket.session = ap (λ (t : KnownTicket g.row.W-Value.Denot). t.session) c.ticket.view_is in
+    let again : c.ticket-2.inside.session ≡ c.args.ticket.session = ap (λ (t : KnownTicket g.row.W-Value.Denot). t.session) (c.ticket-2.view_is ∙ c.pull.ensures.ticket) in
+    let first = subst (λ s. IsTakenFrom s i.seats c.take_name-going.new.self c.take_name-going.result) back c.take_name-going.ensures in
+    let second = subst (λ s. IsTakenFrom s c.take_name-going.new.self c.take_name-name.new.self c.take_name-name.result) back c.take_name-name.ensures in
+    let entries = c.push_reserved.ensures.items ∙ ap (λ s. i.history.items ++ Start s c.args.kind c.take_name-name.result c.args.stamp ∷ []) again in
+    let keys = c.keys.ensures ∙ ap (λ s. (seat_at s i.seats).keys) back in
+    let ready = can g.W.Work.chain g.W.Work.is_feature _ _ _ _ c.self.view_is c.self.invariant.0 c.args.ticket c.requires.fits c.args.kind c.args.stamp c.requires.step in
+    let less : i.owed - 1 + 1 ≡ i.owed = omega (arith, ready.some, ready.owes) in
+    let sent = sends g.W.Work.chain g.W.Work.is_feature _ _ _ _ c.self.view_is c.self.invariant.0 c.args.ticket c.requires.fits c.args.kind c.args.stamp c.requires.step c.take_name-going.result c.take_name-name.result c.take_name-going.new.self c.take_name-name.new.self first second
+    c.send-work.new.self.home runs c.send-work.ensures.sent.taken c.pull.ensures.wide c.push_reserved.new.self.items c.keys.result.now (i.owed - 1) (vec_capacity i.history) i.store.spare entries keys less (omega arith) (omega (arith, less, c.self.invariant.0.parts.stored)) in
+    rw (c.send-work.ensures.kind, c.pull.ensures.ticket) sent.started
 
-pub returns-clause-kind : goal.returns-clause-kind
-returns-clause-kind g c =
-    let E : List g.row.W.Denot → Type 0 = λ l. Each (λ (w : g.row.W.Denot). (g.W.Work.kind_of w ≡ 11) × g.W.Work.may_run w) l in
-    let each = subst E c.take_last-work.ensures.items c.self.invariant.1 in
-    let mine = each_last (λ (w : g.row.W.Denot). (g.W.Work.kind_of w ≡ 11) × g.W.Work.may_run w) c.take_last-work.new.self.items c.take_last-work.result each in
-    mine.0
-
-pub returns-clause-fits : goal.returns-clause-fits
-returns-clause-fits g c =
+pub returns-clause-goes : goal.returns-clause-goes
+returns-clause-goes g c =
     let i = c.self.inside in
-    let E : List g.row.W.Denot → Type 0 = λ l. Each (λ (w : g.row.W.Denot). (g.W.Work.kind_of w ≡ 11) × g.W.Work.may_run w) l in
-    let each = subst E c.take_last-work.ensures.items c.self.invariant.1 in
-    let mine = each_last (λ (w : g.row.W.Denot). (g.W.Work.kind_of w ≡ 11) × g.W.Work.may_run w) c.take_last-work.new.self.items c.take_last-work.result each in
-    let session = ap (λ (x : KnownTicket g.row.W-Value.Denot). x.session) c.ticket.view_is in
-    let stamp = ap (λ (x : KnownTicket g.row.W-Value.Denot). x.stamp) c.ticket.view_is ∙ sym (ap (λ (x : KnownTicket g.row.W-Value.Denot). x.stamp) c.take_name-name.ensures.rest) in
-    let entries = start_entries _ i.history.items _ _ (g.W.Work.kind_of c.take_last-work.result) _ _ c.args.ticket c.take_name-name.new.self c.push_reserved.ensures.items session c.kind.ensures c.take_name-name.ensures.name c.take_name-name.ensures.rest in
-    let goes = start_all _ _ _ _ _ c.args.ticket c.take_name-name.new.self _ c.push_reserved.new.self.items g.W.Work.runs_of i.works.items c.take_last-work.new.self.items c.take_last-work.result (g.W.Work.kind_of c.take_last-work.result) c.ticket.inside.stamp c.ticket.inside.session c.self.view_is c.self.invariant.0 c.requires.fits c.requires.turn refl c.take_last-work.ensures.items mine.0 stamp session c.take_name-name.ensures.rest entries in
-    goes.fits
-
-pub returns-clause-others : goal.returns-clause-others
-returns-clause-others g c =
-    let i = c.self.inside in
-    let E : List g.row.W.Denot → Type 0 = λ l. Each (λ (w : g.row.W.Denot). (g.W.Work.kind_of w ≡ 11) × g.W.Work.may_run w) l in
-    let each = subst E c.take_last-work.ensures.items c.self.invariant.1 in
-    let mine = each_last (λ (w : g.row.W.Denot). (g.W.Work.kind_of w ≡ 11) × g.W.Work.may_run w) c.take_last-work.new.self.items c.take_last-work.result each in
-    let session = ap (λ (x : KnownTicket g.row.W-Value.Denot). x.session) c.ticket.view_is in
-    let stamp = ap (λ (x : KnownTicket g.row.W-Value.Denot). x.stamp) c.ticket.view_is ∙ sym (ap (λ (x : KnownTicket g.row.W-Value.Denot). x.stamp) c.take_name-name.ensures.rest) in
-    let entries = start_entries _ i.history.items _ _ (g.W.Work.kind_of c.take_last-work.result) _ _ c.args.ticket c.take_name-name.new.self c.push_reserved.ensures.items session c.kind.ensures c.take_name-name.ensures.name c.take_name-name.ensures.rest in
-    let goes = start_all _ _ _ _ _ c.args.ticket c.take_name-name.new.self _ c.push_reserved.new.self.items g.W.Work.runs_of i.works.items c.take_last-work.new.self.items c.take_last-work.result (g.W.Work.kind_of c.take_last-work.result) c.ticket.inside.stamp c.ticket.inside.session c.self.view_is c.self.invariant.0 c.requires.fits c.requires.turn refl c.take_last-work.ensures.items mine.0 stamp session c.take_name-name.ensures.rest entries in
-    goes.others
-
-pub take_last-work-requires : goal.take_last-work-requires
-take_last-work-requires g c =
-    let home = (at_home _ _ _ _ _ c.args.ticket _ c.self.view_is c.self.invariant.0 c.requires.fits c.requires.turn).1 in
-    omega (arith, one_work g.W.Work.runs_of c.self.inside.works.items home.runs home.home_is, c.self.inside.works.ok)
-
-pub push_reserved-requires : goal.push_reserved-requires
-push_reserved-requires g c = let room = room_all _ _ _ _ _ c.args.ticket _ c.self.view_is c.self.invariant.0 c.requires.fits in omega (arith, room.within, c.self.inside.history.ok)
-
-pub overflow_sub-self : goal.overflow_sub-self
-overflow_sub-self g c = let room = room_all _ _ _ _ _ c.args.ticket _ c.self.view_is c.self.invariant.0 c.requires.fits in omega (arith, room.owed, room.least)
+    let runs = g.W.Work.runs_of c.send-work.result in
+    let back : c.ticket.inside.session ≡ c.args.ticket.session = ap (λ (t : KnownTicket g.row.W-Value.Denot). t.session) c.ticket.view_is in
+    let again : c.ticket-2.inside.session ≡ c.args.ticket.session = ap (λ (t : KnownTicket g.row.W-Value.Denot). t.session) (c.ticket-2.view_is ∙ c.pull.ensures.ticket) in
+    let first = subst (λ s. IsTakenFrom s i.seats c.take_name-going.new.self c.take_name-going.result) back c.take_name-going.ensures in
+    let second = subst (λ s. IsTakenFrom s c.take_name-going.new.self c.take_name-name.new.self c.take_name-name.result) back c.take_name-name.ensures in
+    let entries = c.push_reserved.ensures.items ∙ ap (λ s. i.history.items ++ Start s c.args.kind c.take_name-name.result c.args.stamp ∷ []) again in
+    let keys = c.keys.ensures ∙ ap (λ s. (seat_at s i.seats).keys) back in
+    let ready = can g.W.Work.chain g.W.Work.is_feature _ _ _ _ c.self.view_is c.self.invariant.0 c.args.ticket c.requires.fits c.args.kind c.args.stamp c.requires.step in
+    let less : i.owed - 1 + 1 ≡ i.owed = omega (arith, ready.some, ready.owes) in
+    let sent = sends g.W.Work.chain g.W.Work.is_feature _ _ _ _ c.self.view_is c.self.invariant.0 c.args.ticket c.requires.fits c.args.kind c.args.stamp c.requires.step c.take_name-going.result c.take_name-name.result c.take_name-going.new.self c.take_name-name.new.self first second
+    c.send-work.new.self.home runs c.send-work.ensures.sent.taken c.pull.ensures.wide c.push_reserved.new.self.items c.keys.result.now (i.owed - 1) (vec_capacity i.history) i.store.spare entries keys less (omega arith) (omega (arith, less, c.self.invariant.0.parts.stored)) in
+    sent.advances

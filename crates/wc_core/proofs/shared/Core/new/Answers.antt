@@ -1,60 +1,95 @@
-use Rattle.std.proofs.Common.{◌≡◌, ℕ, ◌+◌, ◌≤◌, List, ◌∷◌, length, map, vec_capacity, sym, ap, ◌∙◌, arith}
-use Rattle.wc_model.specs.declared.elf_image.Image.{Image}
-use Rattle.wc_model.specs.declared.entries.Entry.TheVariants.{Edit as EditEntry}
+use Rattle.std.proofs.Common.{ℕ, ◌≡◌, ◌≤◌, List, [], ◌∷◌, length, map, vec_capacity, refl, sym, ap, ap₂, subst, ◌∙◌, arith}
+use Rattle.wc_model.specs.declared.entries.Entry.{Entry}
 use Rattle.wc_model.specs.declared.flow_facts.Fact.{Fact}
-use Rattle.wc_model.specs.declared.inputs.Edit.TheVariants.{Hardware as Timing}
-use Rattle.wc_model.specs.Workspace.Edits.{Setting, setting_of}
-use Rattle.wc_model.specs.Workspace.History.{opening_entry, opening_facts}
-use Rattle.wc_model.proofs.Replays.{length-opening_entries}
-use Rattle.wc_core.specs.Holds.{Basis, opening_of, stamp_from}
-use Rattle.wc_core.proofs.Openings.{opens_all, all_ready, one_work}
+use Rattle.wc_model.specs.declared.inputs.Edit.TheVariants.{Add, Hardware as Timing}
+use Rattle.wc_model.specs.declared.kinds.Describe.{Describe}
+use Rattle.wc_model.specs.Workspace.Closures.{order_of}
+use Rattle.wc_model.specs.Workspace.Edits.{setting_of}
+use Rattle.wc_model.specs.Workspace.Registry.{IsOrderOf}
+use Rattle.wc_model.specs.Workspace.States.{Opening}
+use Rattle.wc_core.specs.Inner.Begins.{AreBegun}
+use Rattle.wc_core.specs.Inner.Stocks.{Stock}
+use Rattle.wc_core.specs.Inner.Works.{KnownWorks}
+use Rattle.wc_core.specs.Openings.{works_in}
+use Rattle.wc_core.proofs.IdleLemmas.{HaveNotRun, idle_given, kinds_given}
+use Rattle.wc_core.proofs.OpenLemmas.{IsBare, core_opens, opens}
 use Rattle.wc_core.proofs.shared.Core.new.Goals as goal
 
-pub invariant_of-result : goal.invariant_of-result
-invariant_of-result g c =
-    let image : Image = c.args.image.value in
-    let facts : List Fact = c.args.facts.items in
-    let live = c.in_ok-live.ensures ∙ ap opening_facts c.as_slice.ensures.value in
-    let entries = c.in_ok-history.ensures ∙ ap (λ l. EditEntry 0 1 (Timing c.args.hardware) ∷ map opening_entry l) live in
-    let S : List (ℕ × Fact) → Setting = λ fs. record { image = image; facts = fs; hardware = c.args.hardware } in
-    let inputs : setting_of c.in_ok-inputs.inputs.value ≡ S (opening_facts facts) = ap setting_of c.in_ok-inputs.ensures.ok ∙ ap S live in
-    let count : c.len.result + 1 ≡ length facts + 1 = omega (arith, c.len.ensures, c.args.facts.ok) in
-    let stamp = c.opening_stamp-stamp.ensures ∙ ap (λ l. stamp_from c.first_stamp.result l) live in
-    let b : Basis = record { image = image; hardware = c.args.hardware; facts = facts; sessions = c.args.sessions } in
-    let long : length c.in_ok-history.history.items ≡ length facts + 1 = ap length entries ∙ length-opening_entries (opening_of b) in
-    let within : length facts + 1 ≤ vec_capacity c.in_ok-history.history = omega (arith, long, c.in_ok-history.history.ok) in
-    let opens = opens_all g.W.Work.chain g.W.Work.is_feature b c.first_stamp.result (vec_capacity c.in_ok-history.history) c.in_ok-history.history.items (setting_of c.in_ok-inputs.inputs.value) (c.len.result + 1) c.opening_stamp-stamp.result c.in_ok-slots.slots.items (map g.W.Work.runs_of c.args.works.items) (c.first_stamp.ensures image) within entries inputs count stamp c.in_ok-slots.ensures.items c.requires.runs in
-    let one = one_work g.W.Work.runs_of c.args.works.items 0 c.requires.runs in
-    (opens.core, all_ready g.W.Work.kind_of g.W.Work.may_run c.args.works.items c.requires.works c.requires.ready, omega (arith, one, c.args.works.ok), omega (arith, c.in_ok-slots.ensures.capacity), sym c.requires.described ∙ c.requires.kinds)
+pub invariant_of-result-2 : goal.invariant_of-result-2
+invariant_of-result-2 g c =
+    let d : Stock g.row.W-Value.Denot = record {
+      inputs = setting_of c.add_facts.new.self.inputs.value;
+      count = c.len.result;
+      keys = c.add_facts.new.self.keys.items;
+      lines = c.new-2.result.lines;
+      home = c.in_ok-new.field-0.home;
+      out = c.in_ok-new.field-0.out;
+      seats = c.in_ok-new-2.field-0;
+      owed = 0;
+      spare = c.new-2.result.spare;
+      room = vec_capacity c.add_facts.new.self.history;
+    } in
+    let h : List Entry = c.add_facts.new.self.history.items in
+    let works : List ℕ = map g.W.Work.kind_of c.args.works.items in
+    let O : List Describe → Opening = λ ks. record { image = c.args.image.value; kinds = ks; works = c.in_ok-counts.counts.items; hardware = c.args.hardware; facts = c.args.facts.items; sessions = c.args.sessions } in
+    let I : List Describe → Type 0 = λ ks. IsBare (O ks) works h d in
+    let B : List Fact → Type 0 = λ fs. AreBegun c.args.registry c.args.image.value (Timing c.args.hardware ∷ map Add fs) d.inputs d.keys h in
+    let counts : c.in_ok-counts.counts.items ≡ works_in works (order_of c.args.registry) = c.in_ok-counts.ensures ∙ ap₂ (λ ws ks. works_in (map g.W.Work.kind_of ws) ks) c.as_slice-2.ensures.value c.order.ensures.listed in
+    let bare : IsBare (O c.args.registry) works h d = record {
+      begun = subst B c.as_slice.ensures.value (c.in_ok-add_facts.ensures c.args.image.value (Timing c.args.hardware ∷ []) (c.in_ok-add.ensures c.args.image.value [] c.in_ok-opened.ensures.begun));
+      below = c.in_ok-opened.ensures.below;
+      order = subst (λ ks. IsOrderOf c.args.registry ks) c.order.ensures.listed c.order.ensures.order;
+      staffed = c.requires.staffed;
+      works_are = counts;
+      home_kinds = ap (λ (w : KnownWorks). map (λ x. x.0) w.home) c.in_ok-new.ensures ∙ kinds_given g.W.Work.kind_of g.W.Work.runs_of c.args.works.items;
+      idle = subst (λ (w : KnownWorks). HaveNotRun w.home) (sym c.in_ok-new.ensures) (idle_given g.W.Work.kind_of g.W.Work.runs_of c.args.works.items c.requires.runs);
+      count = omega (arith, c.len.ensures, c.add_facts.new.self.history.ok);
+      lines = c.new-2.ensures;
+      out = ap (λ (w : KnownWorks). w.out) c.in_ok-new.ensures;
+      empty = c.in_ok-new-2.ensures.empty;
+      seats = c.in_ok-new-2.ensures.counted;
+      owed = refl;
+      room = omega (arith, c.add_facts.new.self.history.ok);
+    } in
+    let is : I c.registry.inside.kinds.items = subst I (sym c.registry.view_is) bare in
+    (core_opens g.W.Work.chain g.W.Work.is_feature (O c.registry.inside.kinds.items) works h d is, c.registry.view_is ∙ c.requires.described, c.requires.sessions.1)
 
-pub returns-clause-legal : goal.returns-clause-legal
-returns-clause-legal g c =
-    let image : Image = c.args.image.value in
-    let facts : List Fact = c.args.facts.items in
-    let live = c.in_ok-live.ensures ∙ ap opening_facts c.as_slice.ensures.value in
-    let entries = c.in_ok-history.ensures ∙ ap (λ l. EditEntry 0 1 (Timing c.args.hardware) ∷ map opening_entry l) live in
-    let S : List (ℕ × Fact) → Setting = λ fs. record { image = image; facts = fs; hardware = c.args.hardware } in
-    let inputs : setting_of c.in_ok-inputs.inputs.value ≡ S (opening_facts facts) = ap setting_of c.in_ok-inputs.ensures.ok ∙ ap S live in
-    let count : c.len.result + 1 ≡ length facts + 1 = omega (arith, c.len.ensures, c.args.facts.ok) in
-    let stamp = c.opening_stamp-stamp.ensures ∙ ap (λ l. stamp_from c.first_stamp.result l) live in
-    let b : Basis = record { image = image; hardware = c.args.hardware; facts = facts; sessions = c.args.sessions } in
-    let long : length c.in_ok-history.history.items ≡ length facts + 1 = ap length entries ∙ length-opening_entries (opening_of b) in
-    let within : length facts + 1 ≤ vec_capacity c.in_ok-history.history = omega (arith, long, c.in_ok-history.history.ok) in
-    let opens = opens_all g.W.Work.chain g.W.Work.is_feature b c.first_stamp.result (vec_capacity c.in_ok-history.history) c.in_ok-history.history.items (setting_of c.in_ok-inputs.inputs.value) (c.len.result + 1) c.opening_stamp-stamp.result c.in_ok-slots.slots.items (map g.W.Work.runs_of c.args.works.items) (c.first_stamp.ensures image) within entries inputs count stamp c.in_ok-slots.ensures.items c.requires.runs in
-    opens.legal
-
-pub returns-clause-free : goal.returns-clause-free
-returns-clause-free g c =
-    let image : Image = c.args.image.value in
-    let facts : List Fact = c.args.facts.items in
-    let live = c.in_ok-live.ensures ∙ ap opening_facts c.as_slice.ensures.value in
-    let entries = c.in_ok-history.ensures ∙ ap (λ l. EditEntry 0 1 (Timing c.args.hardware) ∷ map opening_entry l) live in
-    let S : List (ℕ × Fact) → Setting = λ fs. record { image = image; facts = fs; hardware = c.args.hardware } in
-    let inputs : setting_of c.in_ok-inputs.inputs.value ≡ S (opening_facts facts) = ap setting_of c.in_ok-inputs.ensures.ok ∙ ap S live in
-    let count : c.len.result + 1 ≡ length facts + 1 = omega (arith, c.len.ensures, c.args.facts.ok) in
-    let stamp = c.opening_stamp-stamp.ensures ∙ ap (λ l. stamp_from c.first_stamp.result l) live in
-    let b : Basis = record { image = image; hardware = c.args.hardware; facts = facts; sessions = c.args.sessions } in
-    let long : length c.in_ok-history.history.items ≡ length facts + 1 = ap length entries ∙ length-opening_entries (opening_of b) in
-    let within : length facts + 1 ≤ vec_capacity c.in_ok-history.history = omega (arith, long, c.in_ok-history.history.ok) in
-    let opens = opens_all g.W.Work.chain g.W.Work.is_feature b c.first_stamp.result (vec_capacity c.in_ok-history.history) c.in_ok-history.history.items (setting_of c.in_ok-inputs.inputs.value) (c.len.result + 1) c.opening_stamp-stamp.result c.in_ok-slots.slots.items (map g.W.Work.runs_of c.args.works.items) (c.first_stamp.ensures image) within entries inputs count stamp c.in_ok-slots.ensures.items c.requires.runs in
-    opens.free
+pub returns : goal.returns
+returns g c =
+    let d : Stock g.row.W-Value.Denot = record {
+      inputs = setting_of c.add_facts.new.self.inputs.value;
+      count = c.len.result;
+      keys = c.add_facts.new.self.keys.items;
+      lines = c.new-2.result.lines;
+      home = c.in_ok-new.field-0.home;
+      out = c.in_ok-new.field-0.out;
+      seats = c.in_ok-new-2.field-0;
+      owed = 0;
+      spare = c.new-2.result.spare;
+      room = vec_capacity c.add_facts.new.self.history;
+    } in
+    let h : List Entry = c.add_facts.new.self.history.items in
+    let works : List ℕ = map g.W.Work.kind_of c.args.works.items in
+    let O : List Describe → Opening = λ ks. record { image = c.args.image.value; kinds = ks; works = c.in_ok-counts.counts.items; hardware = c.args.hardware; facts = c.args.facts.items; sessions = c.args.sessions } in
+    let I : List Describe → Type 0 = λ ks. IsBare (O ks) works h d in
+    let B : List Fact → Type 0 = λ fs. AreBegun c.args.registry c.args.image.value (Timing c.args.hardware ∷ map Add fs) d.inputs d.keys h in
+    let counts : c.in_ok-counts.counts.items ≡ works_in works (order_of c.args.registry) = c.in_ok-counts.ensures ∙ ap₂ (λ ws ks. works_in (map g.W.Work.kind_of ws) ks) c.as_slice-2.ensures.value c.order.ensures.listed in
+    let bare : IsBare (O c.args.registry) works h d = record {
+      begun = subst B c.as_slice.ensures.value (c.in_ok-add_facts.ensures c.args.image.value (Timing c.args.hardware ∷ []) (c.in_ok-add.ensures c.args.image.value [] c.in_ok-opened.ensures.begun));
+      below = c.in_ok-opened.ensures.below;
+      order = subst (λ ks. IsOrderOf c.args.registry ks) c.order.ensures.listed c.order.ensures.order;
+      staffed = c.requires.staffed;
+      works_are = counts;
+      home_kinds = ap (λ (w : KnownWorks). map (λ x. x.0) w.home) c.in_ok-new.ensures ∙ kinds_given g.W.Work.kind_of g.W.Work.runs_of c.args.works.items;
+      idle = subst (λ (w : KnownWorks). HaveNotRun w.home) (sym c.in_ok-new.ensures) (idle_given g.W.Work.kind_of g.W.Work.runs_of c.args.works.items c.requires.runs);
+      count = omega (arith, c.len.ensures, c.add_facts.new.self.history.ok);
+      lines = c.new-2.ensures;
+      out = ap (λ (w : KnownWorks). w.out) c.in_ok-new.ensures;
+      empty = c.in_ok-new-2.ensures.empty;
+      seats = c.in_ok-new-2.ensures.counted;
+      owed = refl;
+      room = omega (arith, c.add_facts.new.self.history.ok);
+    } in
+    let is : I c.registry.inside.kinds.items = subst I (sym c.registry.view_is) bare in
+    let F : List Describe → List (ℕ × ℕ) → Opening = λ ks ws. record { image = c.args.image.value; kinds = ks; works = ws; hardware = c.args.hardware; facts = c.args.facts.items; sessions = c.args.sessions } in
+    opens g.W.Work.chain g.W.Work.is_feature (O c.registry.inside.kinds.items) works h d is (F c.args.registry (works_in works (order_of c.args.registry))) (ap₂ F c.registry.view_is counts)

@@ -1,6 +1,6 @@
 use Rattle.std.proofs.Common.{◌≡◌, ℕ, List, map, sym, subst, ◌∙◌}
 use Rattle.std.specs.List.{All}
-use Rattle.wc_core_next.specs.Answers.{AreRuns, RunsNothing}
+use Rattle.wc_core.specs.Answers.{AreRuns, RunsNothing}
 use Rattle.wc_flight.specs.Closing.{AreBack, IsWhole}
 use Rattle.wc_flight.proofs.CloseLemmas.{all_back, runs_nothing}
 use Rattle.wc_flight.proofs.locked.Locked.close.Goals as goal

@@ -1,0 +1,5 @@
+use Rattle.wc_core.proofs.DrivingLemmas.{staffed_once}
+use Rattle.wc_core.proofs.tests.stage_failing.Goals as goal
+
+pub stage_with-requires-clause-staffed : goal.stage_with-requires-clause-staffed
+stage_with-requires-clause-staffed c = staffed_once

@@ -1,7 +1,0 @@
-pub mod Answers
-pub mod Features
-pub mod Fits
-pub mod Inner
-pub mod Openings
-pub mod Turns
-pub mod Views
