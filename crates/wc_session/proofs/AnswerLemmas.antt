@@ -14,12 +14,13 @@ use Rattle.wc_model.specs.declared.entries.Ended.TheVariants as ended
 use Rattle.wc_model.specs.declared.entries.Entry.{Entry}
 use Rattle.wc_session.specs.Answered.{follows, is_long, is_much, lacks, refuses}
 use Rattle.wc_session.specs.Commands.{IsCommand, IsFaulty, Reads, Says, adds, is_blank, quits, sets}
-use Rattle.wc_session.specs.Parts.{AnswersLine, EndsAtCommand, EndsAtLine, Follows, IsPart, Sends, reply_to_trouble}
+use Rattle.wc_session.specs.Parts.{AnswersLine, EndsAtCommand, EndsAtLine, Follows, IsPart, Sends}
 use Rattle.wc_session.specs.declared.commands.Command.{Command}
 use Rattle.wc_session.specs.declared.commands.Command.TheVariants as command
 use Rattle.wc_session.specs.declared.following.Answer.{Answer}
-use Rattle.wc_session.specs.declared.replies.Reply.{Reply}
-use Rattle.wc_session.specs.declared.replies.Reply.TheVariants as reply
+use Rattle.wc_report.specs.ReplyText.{reply_to_trouble}
+use Rattle.wc_report.specs.declared.replies.Reply.{Reply}
+use Rattle.wc_report.specs.declared.replies.Reply.TheVariants as reply
 use Rattle.wc_session.proofs.PartLemmas.{line_part}
 
 -- `quit` alone is the command to quit.

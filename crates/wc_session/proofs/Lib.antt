@@ -7,5 +7,4 @@ pub mod LackLemmas
 pub mod ListLemmas
 pub mod PartLemmas
 pub mod StaffLemmas
-pub mod TextLemmas
 pub mod WorkLemmas

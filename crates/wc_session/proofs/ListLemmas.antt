@@ -14,7 +14,7 @@ use Rattle.wc_core.specs.Views.{Known}
 use Rattle.wc_session.specs.Answered.{IsListing}
 use Rattle.wc_session.specs.Parts.{Follows}
 use Rattle.wc_session.specs.declared.commands.Command.TheVariants.{List as ListCommand}
-use Rattle.wc_session.specs.declared.replies.Reply.TheVariants.{Listing}
+use Rattle.wc_report.specs.declared.replies.Reply.TheVariants.{Listing}
 
 -- The facts and the hardware don't depend on the image.
 pub record SameParts (a b : Setting) : Type 0 where

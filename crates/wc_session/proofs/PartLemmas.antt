@@ -16,7 +16,7 @@ use Rattle.wc_session.specs.Ends.{GoesOn, HasLast}
 use Rattle.wc_session.specs.Parts.{AnswersLine, EndsAtLine, IsPart, KeepsCore, PartEnds, PartGains, Sends}
 use Rattle.wc_session.specs.Replies.{Replies}
 use Rattle.wc_session.specs.ReplyText.{text_of}
-use Rattle.wc_session.specs.declared.replies.Reply.{Reply}
+use Rattle.wc_report.specs.declared.replies.Reply.{Reply}
 
 pub each_append : {A : Type 0} (P : A → Type 0) (xs ys : List A) → Each P xs → Each P ys → Each P (xs ++ ys)
 each_append P [] ys p q = q

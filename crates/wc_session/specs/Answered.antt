@@ -15,8 +15,8 @@ use Rattle.wc_model.specs.declared.inputs.Edit.TheVariants as edit
 use Rattle.wc_session.specs.Commands.{IsCommand, IsFaulty, Says, blank, quits}
 use Rattle.wc_session.specs.declared.commands.Command.{Command}
 use Rattle.wc_session.specs.declared.commands.Command.TheVariants as command
-use Rattle.wc_session.specs.declared.replies.Reply.{Reply}
-use Rattle.wc_session.specs.declared.replies.Reply.TheVariants as reply
+use Rattle.wc_report.specs.declared.replies.Reply.{Reply}
+use Rattle.wc_report.specs.declared.replies.Reply.TheVariants as reply
 
 -- the command that states an edit
 abbrev pub command_of : Edit → Command

@@ -22,8 +22,8 @@ use Rattle.wc_session.specs.ReplyText.{text_of}
 use Rattle.wc_session.specs.Served.{Gains}
 use Rattle.wc_session.specs.declared.commands.Command.{Command}
 use Rattle.wc_session.specs.declared.commands.Command.TheVariants as command
-use Rattle.wc_session.specs.declared.replies.Reply.{Reply}
-use Rattle.wc_session.specs.declared.replies.Reply.TheVariants as reply
+use Rattle.wc_report.specs.declared.replies.Reply.{Reply}
+use Rattle.wc_report.specs.declared.replies.Reply.TheVariants as reply
 
 -- the core stays legal, and the session has no open ask
 pub record KeepsCore (chain : Chain) (session : ℕ) (old new : Known) : Type 0 where
@@ -47,11 +47,6 @@ pub record Follows (session : ℕ) (old new : List Entry) (c : Command) (reply :
   pub entries : List Entry
   pub added : new ≡ old ++ entries
   pub replied : (image : Image) (later : List Entry) → IsReply session image (new ++ later) c entries reply
-
--- the reply to a line that has no command
-abbrev pub reply_to_trouble : Trouble → Reply
-reply_to_trouble (Refused fault) = reply.Refused fault
-reply_to_trouble (Memory _) = reply.Memory
 
 -- a command or a line ends a session, or it goes on
 abbrev pub EndsAtCommand : Command → Option Ended → Type 0

@@ -5,7 +5,7 @@ use Rattle.wc_model.specs.declared.elf_image.Image.{Image}
 use Rattle.wc_model.specs.declared.entries.Entry.{Entry}
 use Rattle.wc_session.specs.Answered.{IsAnswered}
 use Rattle.wc_session.specs.ReplyText.{text_of}
-use Rattle.wc_session.specs.declared.replies.Reply.{Reply}
+use Rattle.wc_report.specs.declared.replies.Reply.{Reply}
 
 -- the text is the reply to the first line and then those to the others, and so are the entries used up: nothing is left over
 abbrev pub Replies : ℕ → Image → List Entry → List LineResult → List Entry → List ℕ → Type 0

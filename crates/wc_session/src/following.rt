@@ -6,12 +6,12 @@ ghost use Rattle.wc_session.specs.Parts.{EndsAtCommand, Follows, KeepsCore};
 
 use crate::asks::ask;
 use crate::commands::Command;
-use crate::replies::Reply;
 use crate::sessions::SESSION;
 use std::alloc::{AllocError, Global};
 use wc_base::Fault;
 use wc_core::{Core, Edited, Work};
 use wc_model::{Edit, Ended, Text};
+use wc_report::Reply;
 
 /// What a line is replied with, and how it ends the session where it does.
 #[derive(Debug, Drop)]

@@ -6,7 +6,6 @@ mod asks;
 mod command_tests;
 mod commands;
 mod following;
-mod replies;
 mod serving;
 mod sessions;
 #[cfg(test)]

@@ -1,18 +1,20 @@
 ghost use Rattle.std.specs.Prelude.{◌≡◌, ◌≤◌, ◌+◌, false, None, Some, IsFalse};
 ghost use Rattle.wc_core.specs.Answers.{LeavesFree};
-ghost use Rattle.wc_io.specs.Causes.{Rose};
+ghost use Rattle.wc_io.specs.Causes.{HasCause, Rose};
 ghost use Rattle.wc_io.specs.Lines.{given};
+ghost use Rattle.wc_io.specs.Writing.{Writes};
 ghost use Rattle.wc_session.specs.Alone.{IsAlone};
+ghost use Rattle.wc_session.specs.ReplyText.{text_of};
 ghost use Rattle.wc_session.specs.Parts.{AnswersLine, IsPart, KeepsCore, Sends};
 
 use crate::commands::read_command;
 use crate::following::{Answer, follow};
-use crate::replies::{Reply, write_any};
 use std::alloc::Global;
 use wc_base::Fault;
 use wc_core::{Core, Work};
 use wc_io::{Failed, LineRead, Lines, Sink, Source};
 use wc_model::{Ended, Image};
+use wc_report::{Reply, write_reply};
 
 fn answer_line<W: Work>(alloc: Global, core: &mut Core<W>, image: &Image, line: &[u8]) -> Answer
     requires free { LeavesFree core.old.opening core.old.history 1 }
@@ -23,6 +25,18 @@ fn answer_line<W: Work>(alloc: Global, core: &mut Core<W>, image: &Image, line: 
     match read_command(alloc, line, image) {
         Ok(command) => follow(alloc, core, command),
         Err(trouble) => Answer::of(Reply::from(trouble)),
+    }
+}
+
+// Appends the reply to a line that may have none.
+fn write_any<K: Sink>(sink: &mut K, reply: &Option<Reply>) -> Result<(), Failed>
+    ensures text { Writes (K.held sink.old) (K.held sink.new) result (text_of reply.now) }
+    ensures cause { HasCause (K.faults sink.old) (K.faults sink.new) result }
+    ensures place { K.place sink.new ≡ K.place sink.old }
+{
+    match reply {
+        Some(reply) => write_reply(sink, reply),
+        None => Ok(()),
     }
 }
 

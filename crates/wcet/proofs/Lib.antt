@@ -5,7 +5,6 @@ mod OneAnswer
 mod OneWorkLemmas
 mod OpeningLemmas
 mod RegistryLemmas
-mod ReportLemmas
 mod ServeAnswers
 mod ServingLemmas
 mod TallyLemmas

@@ -20,7 +20,7 @@ use Rattle.wc_model.proofs.StepLemmas.{some_same, allowed, started, finished, an
 use Rattle.wc_core.specs.Answers.{RunsNothing, AreRuns}
 use Rattle.wc_session.specs.Each.{Each}
 use Rattle.wcet.specs.BoundAlone.{bound_alone, plain_opening}
-use Rattle.wcet.specs.ReportText.{IsOfKinds}
+use Rattle.wc_report.specs.ReportText.{IsOfKinds}
 use Rattle.wcet.specs.Starts.{starts_of, all_starts, bound_runs}
 
 -- what is known of each entry, and which are starts

@@ -7,7 +7,6 @@ pub mod Feature
 pub mod Files
 pub mod Loading
 pub mod Opening
-pub mod ReportText
 pub mod ServeCall
 pub mod Session
 pub mod Solving

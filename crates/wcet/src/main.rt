@@ -14,7 +14,6 @@ mod hardware_tests;
 mod loading;
 mod opening;
 mod optimum;
-mod report;
 mod running;
 mod serve;
 #[cfg(test)]

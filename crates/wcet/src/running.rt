@@ -7,7 +7,7 @@ ghost use Rattle.wc_model.specs.Workspace.History.{IsLegal, opening_entries};
 ghost use Rattle.wc_model.specs.Workspace.Chain.{chain};
 ghost use Rattle.wc_session.specs.Alone.{IsAlone};
 ghost use Rattle.wcet.specs.BoundAlone.{bound_alone};
-ghost use Rattle.wcet.specs.ReportText.{IsOfKinds};
+ghost use Rattle.wc_report.specs.ReportText.{IsOfKinds};
 ghost use Rattle.wcet.specs.Session.{IsRun, opening_of};
 ghost use Rattle.wcet.specs.Starts.{all_starts, bound_runs};
 

@@ -1,5 +1,0 @@
-//! The report of a shared history, printed without memory.
-mod entries;
-mod tables;
-
-pub use tables::write_report;
