@@ -35,8 +35,11 @@ timing_text hardware = hardware_words hardware ++ codes "\n"
 abbrev pub counts_text : ℕ → ℕ → List ℕ
 counts_text facts at = codes "list " ++ decimal facts ++ codes " at " ++ decimal at ++ codes "\n"
 
+abbrev pub listed_text : ℕ → List (ℕ × Fact) → Hardware → List ℕ
+listed_text at facts hardware = counts_text (length facts) at ++ flat_map numbered_text facts ++ timing_text hardware
+
 abbrev pub listing_text : Listing → List ℕ
-listing_text l = counts_text (length l.facts) l.at ++ flat_map numbered_text l.facts ++ timing_text l.hardware
+listing_text l = listed_text l.at l.facts l.hardware
 
 abbrev pub reply_text : Reply → List ℕ
 reply_text (reply.Edit count) = codes "edit " ++ decimal count ++ codes "\n"

@@ -1,7 +1,7 @@
 ghost use Rattle.std.specs.Prelude.{◌≡◌, codes, flat_map};
 ghost use Rattle.wc_io.specs.Causes.{HasCause};
 ghost use Rattle.wc_io.specs.Writing.{Writes};
-ghost use Rattle.wc_report.specs.ReplyText.{counts_text, listing_text, numbered_text};
+ghost use Rattle.wc_report.specs.ReplyText.{counts_text, listed_text, numbered_text};
 ghost use Rattle.wc_report.specs.ReplyText.{asked_text, reply_text, timing_text};
 
 use crate::edits::write_timing;
@@ -136,18 +136,22 @@ fn write_counts<K: Sink>(sink: &mut K, facts: usize, at: u64) -> Result<(), Fail
     )
 }
 
-fn write_listing<K: Sink>(sink: &mut K, listing: &Listing) -> Result<(), Failed>
-    ensures text { Writes (K.held sink.old) (K.held sink.new) result (listing_text listing.now) }
+fn write_listing<K: Sink>(
+    sink: &mut K,
+    at: u64,
+    facts: &[(u64, Fact)],
+    hardware: &Hardware,
+) -> Result<(), Failed>
+    ensures text { Writes (K.held sink.old) (K.held sink.new) result (listed_text at facts.now hardware.now) }
     ensures cause { HasCause (K.faults sink.old) (K.faults sink.new) result }
     ensures place { K.place sink.new ≡ K.place sink.old }
 {
-    let facts = listing.facts.items();
-    match write_counts(sink, facts.len(), listing.at) {
+    match write_counts(sink, facts.len(), at) {
         Ok(()) => {}
         Err(Failed) => return Err(Failed),
     }
     match write_facts(sink, facts) {
-        Ok(()) => write_hardware_line(sink, &listing.hardware),
+        Ok(()) => write_hardware_line(sink, hardware),
         Err(Failed) => Err(Failed),
     }
 }
@@ -176,7 +180,12 @@ pub fn write_reply<K: Sink>(sink: &mut K, reply: &Reply) -> Result<(), Failed>
                 Piece::Bytes(b"\n"),
             ],
         ),
-        Reply::Listing(listing) => write_listing(sink, listing),
+        Reply::Listing(listing) => write_listing(
+            sink,
+            listing.at,
+            listing.facts.items(),
+            &listing.hardware,
+        ),
         Reply::Memory => write_memory(sink),
     }
 }
