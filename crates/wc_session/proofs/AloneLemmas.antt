@@ -1,14 +1,14 @@
 -- The session of a workspace of its own waits for nobody.
-use Rattle.std.proofs.Common.{◌≡◌, ◌≢◌, ℕ, ◌≤◌, ◌==◌, ◌||◌, Bool, true, false, not, if◌then◌else◌, List, [], ◌∷◌, length, Option, None, Some, nat_le, refl, sym, ap, subst, ◌∙◌, arith, eqb-true}
+use Rattle.std.proofs.Common.{◌≡◌, ◌≢◌, ℕ, ◌==◌, ◌||◌, Bool, true, false, not, if◌then◌else◌, List, [], ◌∷◌, length, Option, None, Some, nat_le, refl, sym, ap, subst, ◌∙◌, arith, eqb-true}
 use Rattle.std.proofs.lemmas.Bool.{and_parts, eq-eqb, leb-true}
 use Rattle.wc_model.specs.declared.entries.Entry.{Entry}
 use Rattle.wc_model.specs.Workspace.Closures.{has_kind, order_of}
 use Rattle.wc_model.specs.Workspace.History.{bound_kind, state_after}
-use Rattle.wc_model.specs.Workspace.States.{Opening, Run, State, Ask, ask_at, home_of, is_free, is_session, key_of, open_ask, own_run, start, within_reach}
+use Rattle.wc_model.specs.Workspace.States.{Opening, Run, State, Ask, ask_at, home_of, is_free, is_session, key_of, own_run, start, within_reach}
 use Rattle.wc_model.proofs.RestLemmas.{nothing_out, quiet_after}
 use Rattle.wc_core.specs.Answers.{IsNext, LeavesFree, RunsNothing}
 use Rattle.wc_core.specs.Fits.{Feature, FitsTicket}
-use Rattle.wc_core.specs.Turns.{answers, at_home, first_missing, next_turn, runner_of_key, runner_of_kind, starts, turn_for, unless_running, waits}
+use Rattle.wc_core.specs.Turns.{answers, at_home, first_missing, runner_of_key, turn_for, unless_running, waits}
 use Rattle.wc_core.specs.Views.{Known, KnownTicket, ask_with}
 use Rattle.wc_core.proofs.TurnLemmas.{find_has}
 use Rattle.wc_session.specs.Alone.{IsAlone}

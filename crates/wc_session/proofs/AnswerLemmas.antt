@@ -2,7 +2,7 @@
 use Rattle.std.proofs.Common.{◌≡◌, ◌≢◌, ℕ, true, List, [], ◌∷◌, ◌++◌, codes, Option, None, Some, IfSome, Err, refl, sym, ap, ◌∙◌, subst, append-nil, arith, ◌⊎◌, inl, inr}
 use Rattle.std.specs.List.{list_all}
 use Rattle.wc_base.specs.declared.faults.Fault.{Fault}
-use Rattle.wc_base.specs.declared.faults.Fault.TheVariants.{BadCommand, LongLine, TooMuch}
+use Rattle.wc_base.specs.declared.faults.Fault.TheVariants.{LongLine, TooMuch}
 use Rattle.wc_base.specs.declared.troubles.Trouble.{Trouble}
 use Rattle.wc_base.specs.declared.troubles.Trouble.TheVariants.{Fault as Refused, Memory}
 use Rattle.wc_io.specs.Lines.{Script, Gives, LineResult, given, too_long, too_much}

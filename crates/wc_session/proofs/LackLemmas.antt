@@ -1,5 +1,5 @@
 -- Each run of an ask lowers the number of kinds that it lacks, or ends in want of memory.
-use Rattle.std.proofs.Common.{◌≡◌, ℕ, zero, suc, ◌+◌, ◌<◌, ◌≤◌, ◌⊎◌, inl, inr, ⊎_elim, ◌||◌, ◌==◌, Bool, true, false, not, if◌then◌else◌, List, [], ◌∷◌, ◌++◌, drop, length, Option, None, Some, is_some, refl, sym, ap, ap₂, subst, ◌∙◌, arith}
+use Rattle.std.proofs.Common.{◌≡◌, ℕ, zero, suc, ◌+◌, ◌<◌, ◌≤◌, ◌⊎◌, inl, inr, ⊎_elim, ◌||◌, ◌==◌, Bool, true, false, not, if◌then◌else◌, List, [], ◌∷◌, ◌++◌, drop, length, Option, Some, is_some, sym, ap, ap₂, subst, ◌∙◌, arith}
 use Rattle.std.specs.List.{filter}
 use Rattle.std.proofs.Math.Path.{fun_ext}
 use Rattle.std.proofs.lemmas.List.{drop-append-le}
@@ -10,14 +10,13 @@ use Rattle.wc_model.specs.declared.entries.End.TheVariants.{Kept, Dropped, Memor
 use Rattle.wc_model.specs.declared.entries.Entry.{Entry}
 use Rattle.wc_model.specs.declared.entries.Entry.TheVariants.{Start, Finish}
 use Rattle.wc_model.specs.Workspace.Closures.{has_kind, order_of}
-use Rattle.wc_model.specs.Workspace.History.{Chain, IsLegal, ask_after, key_with, opened, replay, state_after, step, stepped, taken}
+use Rattle.wc_model.specs.Workspace.History.{Chain, IsLegal, ask_after, opened, replay, state_after, step, stepped, taken}
 use Rattle.wc_model.specs.Workspace.States.{Opening, State, Ask, ask_at, is_session, open_ask, start, with_ask}
 use Rattle.wc_model.proofs.Replays.{opened_within, replay-append}
 use Rattle.wc_model.proofs.StepLemmas.{finished, some_same, started}
 use Rattle.wc_core.specs.Answers.{Advances, IsStarted, IsGiven}
 use Rattle.wc_core.specs.Features.{arc_at}
 use Rattle.wc_core.specs.Fits.{Feature, FitsTicket}
-use Rattle.wc_core.specs.Turns.{next_turn, starts}
 use Rattle.wc_core.specs.Views.{Known, KnownTicket, KnownFlight, KnownLanded, ask_with}
 use Rattle.wc_core.proofs.FinishLemmas.{has_last}
 use Rattle.wc_core.proofs.SeatLemmas.{count_lacks, lacks, lacks_one}

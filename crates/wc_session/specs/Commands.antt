@@ -1,5 +1,5 @@
 -- What a line of a session's script says, and which command it is.
-use Rattle.std.specs.Prelude.{◌≡◌, ℕ, ◌^◌, ◌<◌, ◌==◌, Bool, true, false, not, ◌||◌, ◌⊎◌, List, ◌++◌, length, codes, Result, Ok, Err}
+use Rattle.std.specs.Prelude.{◌≡◌, ℕ, ◌^◌, ◌<◌, ◌==◌, Bool, true, not, ◌||◌, ◌⊎◌, List, ◌++◌, length, codes, Result, Ok, Err}
 use Rattle.std.specs.List.{list_all}
 use Rattle.wc_base.specs.Decimals.{IsDecimal}
 use Rattle.wc_base.specs.declared.faults.Fault.{Fault}
@@ -8,7 +8,6 @@ use Rattle.wc_base.specs.declared.troubles.Trouble.{Trouble}
 use Rattle.wc_base.specs.declared.troubles.Trouble.TheVariants.{Fault as Refused, Memory}
 use Rattle.wc_f4.specs.Reading.{ReadsOne, names_of}
 use Rattle.wc_model.specs.declared.elf_image.Image.{Image}
-use Rattle.wc_model.specs.declared.flow_facts.Fact.{Fact}
 use Rattle.wc_model.specs.declared.machine.Hardware.{Hardware}
 use Rattle.wc_hw.specs.Reading.{ReadsAs}
 use Rattle.wc_session.specs.declared.commands.Command.{Command}

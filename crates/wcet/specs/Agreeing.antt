@@ -1,35 +1,20 @@
 -- The chain depends on its inputs by their parts alone: where these agree, it has the same outcomes.
-use Rattle.std.proofs.Common.{◌≡◌, ℕ, true, false, List, [], ◌∷◌, ◌++◌, Some, Result, Ok, Err, refl, sym, ap, subst, ◌∙◌}
-use Rattle.std.specs.List.{filter, flat_map}
+use Rattle.std.proofs.Common.{◌≡◌, ℕ, List, [], ◌∷◌, Some, Result, Ok, Err, ap, subst, ◌∙◌}
 use Rattle.wc_base.specs.declared.faults.Fault.{Fault}
-use Rattle.wc_model.specs.declared.elf_image.Image.{Image}
-use Rattle.wc_model.specs.declared.flow_facts.Fact.{Fact as FlowFact}
-use Rattle.wc_model.specs.declared.flow_facts.Fact.TheVariants.{Loop, Multibranch, Multicall, Noreturn, Checksum, Limit}
-use Rattle.wc_model.specs.declared.flow_system.System.{System}
-use Rattle.wc_model.specs.declared.graphs.Bounds.{Bounds}
-use Rattle.wc_model.specs.declared.graphs.Costs.{Costs}
 use Rattle.wc_model.specs.declared.graphs.Graph.{Graph}
-use Rattle.wc_model.specs.declared.graphs.Nest.{Nest}
 use Rattle.wc_model.specs.declared.kinds.Part.TheVariants.{Steer, Loops, Limits, Cache as CachePart, Cycles as CyclesPart}
-use Rattle.wc_model.specs.declared.machine.Cache.{Cache}
 use Rattle.wc_model.specs.declared.machine.Cycles.{Cycles}
 use Rattle.wc_model.specs.declared.values.Outcome.{Outcome}
 use Rattle.wc_model.specs.declared.values.Outcome.TheVariants.{Bound, Fault as Refused, Memory}
 use Rattle.wc_model.specs.Cache.Categories.{AreCategories}
 use Rattle.wc_model.specs.Cache.Costs.{upper_costs}
-use Rattle.wc_model.specs.Flow.Systems.{IsSystemOf, fact_limits}
-use Rattle.wc_model.specs.Program.Graphs.{IsGraphFault, IsGraphOf}
-use Rattle.wc_model.specs.Program.Words.{find_of}
-use Rattle.wc_model.specs.Workspace.Chain.{CostsOf}
+use Rattle.wc_model.specs.Workspace.Chain.{ChainResult, CostsOf, chain}
 use Rattle.wc_model.specs.Workspace.Closures.{closure}
-use Rattle.wc_model.specs.Workspace.Edits.{AgreeOn, AgreeOnAll, Setting, belongs}
+use Rattle.wc_model.specs.Workspace.Edits.{AgreeOn, AgreeOnAll, Setting}
 use Rattle.wc_model.specs.Workspace.History.{bound_kind}
-use Rattle.wc_model.specs.Workspace.Phases.{After, BoundsOf, GraphAt, GraphOf, IsSystemResult, SystemOf, big, costly, fine, stated, stopped, went_on}
-use Rattle.wc_model.proofs.SteeringLemmas.{agreeing_code}
 use Rattle.wc_core.specs.Features.{Tells}
 use Rattle.wc_laws.proofs.AgreeingFeatureLemmas.{bounds_of, graphs, system_of}
 use Rattle.wc_laws.proofs.RelationLemmas.{Gives, after_gives}
-use Rattle.wc_model.specs.Workspace.Chain.{ChainResult, chain}
 use Rattle.wcet.specs.BoundAlone.{all_parts, bound_alone}
 use Rattle.wcet.specs.Feature.{IsFeature, outcome_of}
 
