@@ -1,4 +1,5 @@
 pub mod Answers
+pub mod Boxes
 pub mod Features
 pub mod Fits
 pub mod Inner

@@ -8,6 +8,7 @@ mod given;
 mod moves;
 mod opening;
 mod pins;
+mod processor;
 mod rows;
 mod seats;
 mod shared;
@@ -20,6 +21,7 @@ mod works;
 
 pub use answers::Edited;
 pub use given::Given;
+pub use processor::Processor;
 pub use shared::Core;
 pub use tickets::{Flight, Landed, Next, Ticket};
 pub use work::{Job, Work};
