@@ -24,12 +24,7 @@ fn write_outcome<K: Sink>(sink: &mut K, outcome: Outcome) -> Result<(), Failed>
     }
 }
 
-fn write_answer_front<K: Sink>(
-    sink: &mut K,
-    by: u32,
-    name: &Text,
-    at: u64,
-) -> Result<(), Failed>
+fn write_answer_front<K: Sink>(sink: &mut K, by: u32, name: &Text, at: u64) -> Result<(), Failed>
     ensures text { Writes (K.held sink.old) (K.held sink.new) result (answer_front by name.now at) }
     ensures cause { HasCause (K.faults sink.old) (K.faults sink.new) result }
     ensures place { K.place sink.new ≡ K.place sink.old }

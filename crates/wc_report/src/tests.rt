@@ -5,8 +5,9 @@ use std::alloc::{AllocError, Global};
 use std::test::Fail;
 use wc_base::Fault;
 use wc_io::{Failed, MemorySink};
-use wc_model::{Asked, Edit, End, Ended, Entry, Fact, Kind, Listing, Outcome, Table, Text};
-use wc_model::default_hardware;
+use wc_model::{
+    Asked, Edit, End, Ended, Entry, Fact, Kind, Listing, Outcome, Table, Text, default_hardware,
+};
 
 fn sink_of(alloc: Global, failing: &[u64]) -> Result<MemorySink, AllocError> {
     let mut fails = Vec::new(alloc);
@@ -80,22 +81,91 @@ session 5 writefault\n";
 // Prints the report of all forms of entries on a sink.
 fn print(alloc: Global, sink: &mut MemorySink) -> Result<Result<(), Failed>, AllocError> {
     let history = [
-        Entry::Edit { session: 0, count: 1, edit: Edit::Hardware(default_hardware()) },
-        Entry::Edit { session: 1, count: 2, edit: Edit::Add(a_loop(alloc)) },
-        Entry::Pin { session: 1, name: text(alloc, "f")?, at: 2 },
-        Entry::Start { session: 1, kind: kind(1)?, name: text(alloc, "f")?, stamp: 0 },
-        Entry::Finish { session: 1, kind: kind(1)?, name: text(alloc, "f")?, stamp: 0, end: End::Kept },
-        Entry::Start { session: 1, kind: kind(3)?, name: text(alloc, "f")?, stamp: 2 },
-        Entry::Finish { session: 1, kind: kind(3)?, name: text(alloc, "f")?, stamp: 2, end: End::Dropped },
-        Entry::Finish { session: 2, kind: kind(10)?, name: text(alloc, "f")?, stamp: 3, end: End::Memory },
-        Entry::Answer { session: 1, name: text(alloc, "f")?, at: 2, outcome: Outcome::Bound(22) },
-        Entry::Answer { session: 1, name: text(alloc, "f")?, at: 4, outcome: Outcome::Fault(Fault::Unbounded(0x8004)) },
-        Entry::Answer { session: 2, name: text(alloc, "f")?, at: 4, outcome: Outcome::Memory },
-        Entry::Edit { session: 1, count: 4, edit: Edit::Drop(2) },
-        Entry::NoFact { session: 64, number: 0xffff_ffff_ffff_ffff, at: 4 },
+        Entry::Edit {
+            session: 0,
+            count: 1,
+            edit: Edit::Hardware(default_hardware()),
+        },
+        Entry::Edit {
+            session: 1,
+            count: 2,
+            edit: Edit::Add(a_loop(alloc)),
+        },
+        Entry::Pin {
+            session: 1,
+            name: text(alloc, "f")?,
+            at: 2,
+        },
+        Entry::Start {
+            session: 1,
+            kind: kind(1)?,
+            name: text(alloc, "f")?,
+            stamp: 0,
+        },
+        Entry::Finish {
+            session: 1,
+            kind: kind(1)?,
+            name: text(alloc, "f")?,
+            stamp: 0,
+            end: End::Kept,
+        },
+        Entry::Start {
+            session: 1,
+            kind: kind(3)?,
+            name: text(alloc, "f")?,
+            stamp: 2,
+        },
+        Entry::Finish {
+            session: 1,
+            kind: kind(3)?,
+            name: text(alloc, "f")?,
+            stamp: 2,
+            end: End::Dropped,
+        },
+        Entry::Finish {
+            session: 2,
+            kind: kind(10)?,
+            name: text(alloc, "f")?,
+            stamp: 3,
+            end: End::Memory,
+        },
+        Entry::Answer {
+            session: 1,
+            name: text(alloc, "f")?,
+            at: 2,
+            outcome: Outcome::Bound(22),
+        },
+        Entry::Answer {
+            session: 1,
+            name: text(alloc, "f")?,
+            at: 4,
+            outcome: Outcome::Fault(Fault::Unbounded(0x8004)),
+        },
+        Entry::Answer {
+            session: 2,
+            name: text(alloc, "f")?,
+            at: 4,
+            outcome: Outcome::Memory,
+        },
+        Entry::Edit {
+            session: 1,
+            count: 4,
+            edit: Edit::Drop(2),
+        },
+        Entry::NoFact {
+            session: 64,
+            number: 0xffff_ffff_ffff_ffff,
+            at: 4,
+        },
         Entry::List { session: 64, at: 4 },
     ];
-    let ends = [Ended::Quit, Ended::End, Ended::TooMuch, Ended::ReadFault, Ended::WriteFault];
+    let ends = [
+        Ended::Quit,
+        Ended::End,
+        Ended::TooMuch,
+        Ended::ReadFault,
+        Ended::WriteFault,
+    ];
     Ok(write_report(sink, &history, &[1, 2, 3, 4, 5, 6, 7, 8, 9, 10, 11], &ends))
 }
 
@@ -142,9 +212,27 @@ fn each_reply_has_its_lines(rt: HostRuntime) -> Result<(), Fail> {
     let greatest = Outcome::Bound(0xffff_ffff_ffff_ffff_ffff_ffff_ffff_ffff);
     let table = [
         Reply::Edit(3),
-        Reply::Bound(text(alloc, "main")?, Asked { at: 7, outcome: greatest }),
-        Reply::Bound(text(alloc, "main")?, Asked { at: 8, outcome: faulty }),
-        Reply::Bound(text(alloc, "main")?, Asked { at: 9, outcome: Outcome::Memory }),
+        Reply::Bound(
+            text(alloc, "main")?,
+            Asked {
+                at: 7,
+                outcome: greatest,
+            },
+        ),
+        Reply::Bound(
+            text(alloc, "main")?,
+            Asked {
+                at: 8,
+                outcome: faulty,
+            },
+        ),
+        Reply::Bound(
+            text(alloc, "main")?,
+            Asked {
+                at: 9,
+                outcome: Outcome::Memory,
+            },
+        ),
         Reply::Refused(Fault::LongLine),
         Reply::Listing(listing(alloc)?),
         Reply::Memory,
