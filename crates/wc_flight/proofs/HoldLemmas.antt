@@ -125,6 +125,7 @@ module _ (old mid new : KnownPass) (before grown : Known) (met : HasMet old mid 
       record {
         gains = one_entry (λ s. ListEntry s listing.at) (λ s. refl) session own is.entry;
         fresh = let le = no_older in let here = is.here in omega (arith, le, here);
+        here = is.here ∙ ap length (same_edits (ListEntry session listing.at) refl is.entry);
         facts = is.facts ∙ ap (λ (s : Setting). s.facts) at;
         hardware = is.hardware ∙ ap (λ (s : Setting). s.hardware) at;
       }

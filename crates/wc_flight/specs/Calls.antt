@@ -64,6 +64,7 @@ EditAnswers old new edit result = MatchResult result (EditIs old new edit) (λ _
 pub record Lists (o : Opening) (old new : KnownPass) (listing : Listing) : Type 0 where
   pub gains : Gains old new (ListEntry old.session listing.at ∷ [])
   pub fresh : edits_seen old ≤ listing.at
+  pub here : listing.at ≡ edits_seen new
   pub facts : listing.facts ≡ (after o.image listing.at new.seen).facts
   pub hardware : listing.hardware ≡ (after o.image listing.at new.seen).hardware
 
