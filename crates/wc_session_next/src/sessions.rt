@@ -46,7 +46,9 @@ pub fn session<R: Wait, N: Named, W: Work + Send, S: Source, K: Sink>(
     ensures source_place { S.place result.source ≡ lines.place }
     ensures sink_place { K.place result.sink ≡ K.place sink }
 {
-    let ended = serve_all(rt, alloc, workspace, image, &mut pass, &mut lines, &mut sink);
+    let ended = serve_all(
+        rt, alloc, workspace, image, &mut pass, &mut lines, &mut sink,
+    );
     SessionEnd {
         pass,
         source: lines.into_source(),
