@@ -16,3 +16,6 @@ pub use closing::Closed;
 pub use named::Named;
 pub use preparing::{Prepared, prepare};
 pub use workspace::Workspace;
+
+#[cfg(test)]
+mod tests;
