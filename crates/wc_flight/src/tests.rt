@@ -2,6 +2,7 @@ ghost use Rattle.std.specs.Prelude.{◌≡◌, ◌≤◌, Some, IfOk, All, map};
 ghost use Rattle.wc_core.specs.Openings.{IsStaffed};
 ghost use Rattle.wc_model.specs.Workspace.Kinds.{describe, eleven_kinds};
 
+mod crowd;
 mod notes;
 mod replay;
 mod scenes;

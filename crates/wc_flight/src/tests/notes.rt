@@ -25,7 +25,11 @@ fn learned<R: Wait, N: Named>(
     Ok(count)
 }
 
-fn told<R: Wait, N: Named>(rt: &R, alloc: Global, prepared: Prepared<Small>) -> Result<u64, AllocError>
+fn told<R: Wait, N: Named>(
+    rt: &R,
+    alloc: Global,
+    prepared: Prepared<Small>,
+) -> Result<u64, AllocError>
     requires { (prepared.desk ≡ N.desk) × (prepared.opening ≡ N.opening) }
 {
     let (workspace, mut passes) = Workspace::<N, Small>::new(prepared);

@@ -1,6 +1,4 @@
-use super::scenes::played;
 use super::*;
-use std::test::Fail;
 use wc_model::{Edit, End, Entry, Text};
 
 // A plain replay of a history in which `alu` alone is edited: kinds from 8 on depend on it, and no name is of
@@ -257,27 +255,11 @@ fn key_of(kind: Kind, name: &Text, stamp: u64) -> Key {
     }
 }
 
-fn is_legal(alloc: Global, history: &[Entry]) -> Result<bool, AllocError> {
+pub(crate) fn is_legal(alloc: Global, history: &[Entry]) -> Result<bool, AllocError> {
     let mut replay = Replay::new(alloc);
     let mut legal = true;
     for entry in history {
         legal = replay.step(alloc, entry)? && legal;
     }
     Ok(legal)
-}
-
-fn tally<F: Fn(&Entry) -> bool>(history: &[Entry], is: F) -> usize {
-    history.iter().filter(|entry| is(entry)).count()
-}
-
-#[test]
-fn sixty_four_sessions_make_a_hundred_calls_each(rt: HostRuntime) -> Result<(), Fail> {
-    let closed = played(&rt, rt.alloc(), Scene::Many, 1, 64)?;
-    let history = closed.history.as_slice();
-    assert!(rt; is_legal(rt.alloc(), history)?);
-    // of five calls two ask, one lists, and one drops a fact that isn't there
-    assert_eq!(rt; tally(history, |entry| matches!(entry, Entry::Answer { .. })), 64 * 40);
-    assert_eq!(rt; tally(history, |entry| matches!(entry, Entry::List { .. })), 64 * 20);
-    assert_eq!(rt; tally(history, |entry| matches!(entry, Entry::NoFact { .. })), 64 * 20);
-    Ok(())
 }
