@@ -14,7 +14,7 @@ use Rattle.wcet.specs.declared.serve.Unserved.{Unserved}
 use Rattle.wcet.specs.declared.serve.Unserved.TheVariants.{Unloaded as NotLoaded, WriteFault}
 use Rattle.wcet.specs.Answers.{Shows}
 use Rattle.wcet.specs.Files.{Holds, IsTold, IsFirstFault, paths_of}
-use Rattle.wc_report.specs.ReportText.{printed}
+use Rattle.wc_report.specs.ReportText.{printed as report_text}
 use Rattle.wcet.specs.ServeCall.{AreKept, Prevents, unserved_line, unserved_status, Reports, IsHeadline, IsUnserved, IsDone, ShowsReport, RefusesFile, HasFaultyFile, HasSoundFiles, OpensInOrder, KeepsFiles, serve_paths}
 use Rattle.wcet.specs.Session.{IsSession}
 use Rattle.wcet.specs.Starts.{all_starts, bound_runs}
@@ -59,9 +59,9 @@ module _ (words : List (List ℕ)) (tells : Bool) (files now : List ℕ → Opti
     Session end = IsSession tells files now paths input output old new history end
 
     abbrev Printed : Ended → Type 0
-    Printed end = Reports (printed history (bound_runs runs) (end ∷ [])) end held after before later status
+    Printed end = Reports (report_text history (bound_runs runs) (end ∷ [])) end held after before later status
 
-    headline : (prints : List ℕ → Type 0) (end : Ended) → Session end → prints (printed history (bound_runs runs) (end ∷ [])) → IsHeadline words tells files now old new prints end
+    headline : (prints : List ℕ → Type 0) (end : Ended) → Session end → prints (report_text history (bound_runs runs) (end ∷ [])) → IsHeadline words tells files now old new prints end
     headline prints end s printed = record {
       paths = paths;
       input = input;
@@ -69,10 +69,10 @@ module _ (words : List (List ℕ)) (tells : Bool) (files now : List ℕ → Opti
       call = call;
       history = history;
       session = s;
-      printed = subst (λ (rs : List ℕ). prints (printed history rs (end ∷ []))) runs_are printed;
+      printed = subst (λ (rs : List ℕ). prints (report_text history rs (end ∷ []))) runs_are printed;
     }
 
-    shown : (end : Ended) → Printed end → Shows held after before later (printed history (bound_runs runs) (end ∷ []))
+    shown : (end : Ended) → Printed end → Shows held after before later (report_text history (bound_runs runs) (end ∷ []))
     shown end printed = elim printed [ inl t ↦ inl t.1 | inr t ↦ inr (t.1, t.2) ]
 
     four : (end : Ended) → Printed end → ((status ≡ 0) ⊎ (status ≡ 4)) ⊎ ((status ≡ 3) ⊎ (status ≡ 7))

@@ -19,7 +19,7 @@ use Rattle.wcet.specs.declared.serve.Unserved.TheVariants.{Unloaded as NotLoaded
 use Rattle.wcet.specs.Answers.{Shows, answer_of, line_of, status_of, unwritten, refusal}
 use Rattle.wcet.specs.Files.{IsTold, AreTold, Holds, AreInputs, IsFirstFault, paths_of}
 use Rattle.wcet.specs.Loading.{IsRefused, IsUnfinished, IsUnread, OpensAll}
-use Rattle.wc_report.specs.ReportText.{IsOfKinds, printed}
+use Rattle.wc_report.specs.ReportText.{IsOfKinds, printed as report_text}
 use Rattle.wcet.specs.Session.{IsSession, IsSessionOver}
 use Rattle.wcet.specs.Starts.{all_starts, bound_runs}
 use Rattle.wcet.specs.Words.{Paths, IsServeCall}
@@ -110,7 +110,7 @@ pub record IsHeadline (words : List (List ℕ)) (tells : Bool) (files now : List
   pub call : IsServeCall words paths input output
   pub history : List Entry
   pub session : IsSession tells files now paths input output old new history end
-  pub printed : prints (printed history (all_starts history) (end ∷ []))
+  pub printed : prints (report_text history (all_starts history) (end ∷ []))
 
 -- why no session was served for these words
 pub record IsUnserved (words : List (List ℕ)) (tells : Bool) (files now : List ℕ → Option (List ℕ)) (old new : List Row) (unserved : Unserved) : Type 0 where

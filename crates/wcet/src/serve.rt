@@ -7,7 +7,7 @@ ghost use Rattle.wc_io.specs.Writing.{AppendsPart};
 ghost use Rattle.wc_model.specs.declared.entries.Ended.{Ended as EndedOf};
 ghost use Rattle.wcet.specs.Answers.{Shows, unwritten};
 ghost use Rattle.wcet.specs.Files.{Holds};
-ghost use Rattle.wc_report.specs.ReportText.{IsOfKinds, printed};
+ghost use Rattle.wc_report.specs.ReportText.{IsOfKinds, printed as report_text};
 ghost use Rattle.wcet.specs.ServeCall.{AreKept, HasFaultyFile, HasSoundFiles, IsDone, IsHeadline, IsUnserved, KeepsFiles, OpensInOrder, RefusesFile, Reports, RunsLoaded, Serves, ShowsReport, ended_status, unserved_line, unserved_status};
 ghost use Rattle.wcet.specs.Starts.{bound_runs};
 ghost use Rattle.wcet.specs.Words.{IsFaultyServe, paths_in};
@@ -148,7 +148,7 @@ fn unwritten_status(status: Status) -> Status
 
 fn finish_served<K: Sink>(out: &mut K, served: &Served) -> Status
     requires { All IsOfKinds served.now.history.items }
-    ensures report { Reports (printed served.now.history.items (bound_runs served.now.runs) (served.now.ended ∷ [])) served.now.ended (K.held out.old) (K.held out.new) (K.faults out.old) (K.faults out.new) result }
+    ensures report { Reports (report_text served.now.history.items (bound_runs served.now.runs) (served.now.ended ∷ [])) served.now.ended (K.held out.old) (K.held out.new) (K.faults out.old) (K.faults out.new) result }
     ensures place { K.place out.new ≡ K.place out.old }
     ensures faults { K.faults out.old ≤ K.faults out.new }
 {
