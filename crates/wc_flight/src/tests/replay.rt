@@ -257,9 +257,10 @@ fn key_of(kind: Kind, name: &Text, stamp: u64) -> Key {
 
 pub(crate) fn is_legal(alloc: Global, history: &[Entry]) -> Result<bool, AllocError> {
     let mut replay = Replay::new(alloc);
-    let mut legal = true;
     for entry in history {
-        legal = replay.step(alloc, entry)? && legal;
+        if !replay.step(alloc, entry)? {
+            return Ok(false);
+        }
     }
-    Ok(legal)
+    Ok(true)
 }
