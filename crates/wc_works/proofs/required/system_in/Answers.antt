@@ -1,0 +1,5 @@
+use Rattle.wc_works.proofs.GivenLemmas.{no_other_system}
+use Rattle.wc_works.proofs.required.system_in.Goals as goal
+
+pub unreachable-requires : goal.unreachable-requires
+unreachable-requires c = no_other_system c.value_of.result.now c.value_of.ensures.number c.in_default.not-System
