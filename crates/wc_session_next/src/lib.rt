@@ -6,3 +6,6 @@ mod serving;
 mod sessions;
 
 pub use sessions::{SessionEnd, session};
+
+#[cfg(test)]
+mod tests;
