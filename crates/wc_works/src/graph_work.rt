@@ -46,7 +46,12 @@ fn graph_for(alloc: Global, job: &Job, given: &Given<Value>) -> Result<Graph, Tr
     ensures feature { Answers (GraphFeature (setting_of job.now.inputs.value) job.now.name.value) result }
     ensures numbers { IfOk result IsGraph }
 {
-    graph_of(alloc, &job.inputs.image, &job.inputs.facts, job.name.items())
+    graph_of(
+        alloc,
+        &job.inputs.image,
+        &job.inputs.facts,
+        job.name.items(),
+    )
 }
 
 fn value_for(alloc: Global, job: &Job, given: &Given<Value>) -> Result<Value, AllocError>

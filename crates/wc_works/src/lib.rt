@@ -33,6 +33,3 @@ pub use shipping::shipped;
 pub use solution_work::SolutionWork;
 pub use system_work::SystemWork;
 pub use wc_core::Processor;
-
-#[cfg(test)]
-mod tests;
