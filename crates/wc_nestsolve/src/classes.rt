@@ -6,12 +6,50 @@ ghost use Rattle.wc_nestsolve.specs.Inner.Solvable.{IsSolvable};
 use std::alloc::{AllocError, Global};
 use wc_model::{Nest, System, Table};
 
-fn no_classes(alloc: Global, count: usize) -> Result<Vec<Table<u32>>, AllocError>
-    ensures { IfOk result (λ v. v.items ≡ replicate count []) }
+fn count_one(sizes: &mut Vec<usize>, place: usize, more: usize)
+    requires { place < length sizes.old.items }
+    ensures { length sizes.new.items ≡ length sizes.old.items }
 {
-    let mut classes = Vec::with_capacity(alloc, count)?;
-    for _loop in 0..count {
-        classes.push(Table::new(Vec::new(alloc)))?;
+    sizes[place] = sizes[place].wrapping_add(more);
+}
+
+// How many nodes lie in each loop and in none inside it.
+fn own_sizes(alloc: Global, system: &System, nest: &Nest) -> Result<Vec<usize>, AllocError>
+    requires solvable { IsSolvable nest.now system.now }
+    ensures { IfOk result (λ v. length v.items ≡ length nest.now.heads) }
+{
+    let mut sizes = vec![in alloc; 0usize; nest.heads.items().len()]?;
+    for inside in nest.inside.items() {
+        if let Some(place) = *inside {
+            count_one(&mut sizes, place as usize, 1);
+        }
+    }
+    Ok(sizes)
+}
+
+// How many nodes lie in each loop, so that no list of them has to grow.
+fn sizes(alloc: Global, system: &System, nest: &Nest) -> Result<Vec<usize>, AllocError>
+    requires solvable { IsSolvable nest.now system.now }
+    ensures { IfOk result (λ v. length v.items ≡ length nest.now.heads) }
+{
+    let mut sizes = own_sizes(alloc, system, nest)?;
+    let mut left = nest.heads.items().len();
+    while 0 < left {
+        left -= 1;
+        if let Some(parent) = nest.heads.items()[left].parent {
+            let size = sizes[left];
+            count_one(&mut sizes, parent as usize, size);
+        }
+    }
+    Ok(sizes)
+}
+
+fn no_classes(alloc: Global, sizes: &[usize]) -> Result<Vec<Table<u32>>, AllocError>
+    ensures { IfOk result (λ v. v.items ≡ replicate (length sizes.now) []) }
+{
+    let mut classes = Vec::with_capacity(alloc, sizes.len())?;
+    for size in sizes {
+        classes.push(Table::new(Vec::with_capacity(alloc, *size)?))?;
     }
     Ok(classes)
 }
@@ -55,7 +93,8 @@ pub fn classes(
     requires order { IsDownOrder system.now nest.now order.now }
     ensures { IfOk result (λ v. AreClasses nest.now order.now v.items) }
 {
-    let mut classes = no_classes(alloc, nest.heads.items().len())?;
+    let sizes = sizes(alloc, system, nest)?;
+    let mut classes = no_classes(alloc, sizes.as_slice())?;
     for node in order {
         join(system, nest, *node, &mut classes)?;
     }

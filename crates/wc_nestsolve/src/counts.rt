@@ -35,7 +35,7 @@ pub fn follow(
     requires start { start < system.now.nodes }
     ensures { IfOk result (λ w. w.items ≡ walk_from system.now nest.now best.now most (Some start)) }
 {
-    let mut walk = Vec::new(alloc);
+    let mut walk = Vec::with_capacity(alloc, most)?;
     let mut at = start;
     for _step in 0..most {
         let Some(found) = best[at as usize] else {

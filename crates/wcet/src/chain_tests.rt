@@ -1,6 +1,7 @@
 //! What the whole chain answers: programs with facts, caches and limits, and their bounds or faults.
 use std::test::Fail;
 
+mod cube;
 mod programs;
 mod rows;
 mod systems;

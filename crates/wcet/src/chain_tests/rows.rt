@@ -1,4 +1,5 @@
 //! The table of programs, and what `bound` answers of them.
+use super::cube::{CUBE, CUBE_FACTS};
 use super::programs::{
     BRANCH, CALL_BY_REGISTER, CALLED_TWICE, FOUR_LOOPS, LOOP, OUT_OF_TEXT, RECURSIVE, SKIPPED_HALF,
     STRAIGHT, SWITCH, SWITCH_CACHE, SWITCH_CYCLES, SWITCH_FACTS, THREE_LOOPS, TWO_CALLS, TWO_HEADS,
@@ -17,7 +18,7 @@ pub struct Row<'a> {
     pub text: &'a str,
 }
 
-pub fn rows<'a>() -> [Row<'a>; 34] {
+pub fn rows<'a>() -> [Row<'a>; 35] {
     [
         Row {
             name: "a straight function",
@@ -202,6 +203,14 @@ pub fn rows<'a>() -> [Row<'a>; 34] {
             hardware: "",
             status: 0,
             text: "bound f 11\n",
+        },
+        Row {
+            name: "more than 5,000 pivots",
+            code: &CUBE,
+            facts: CUBE_FACTS,
+            hardware: "",
+            status: 1,
+            text: "refused 42 PivotLimit\n",
         },
         Row {
             name: "a limit for one call",
